@@ -1,0 +1,2 @@
+-- The laws of rows of checks.
+pub mod Laws
