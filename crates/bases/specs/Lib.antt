@@ -1,0 +1,2 @@
+-- What the contracts of `bases`, and of every crate that reads a base, cite.
+pub mod Bases
