@@ -1,0 +1,53 @@
+//! Writes the fixed list of cases, lines "GAP SEQ", that `answers` reads.
+
+use std::io::{self, BufWriter, Write};
+use strands::{spell, strand, Random, Spelling, Temper};
+
+/// Changing this, or the order of any draw, changes the whole list.
+const SEED: u64 = 1980;
+
+const BENCH_SHEET: [(u64, &str); 10] = [
+    (3, "A"),
+    (0, "GC"),
+    (1, "GC"),
+    (3, "GGGGCCCC"),
+    (3, "GGAAACC"),
+    (3, "GGGAAACCC"),
+    (3, "GGGAAAACCC"),
+    (3, "GGGAAAAAAGGGAAACCCCCC"),
+    (3, "GGGAAACCA"),
+    (3, "GGGAAACCAC"),
+];
+
+/// The gap 3 stands here often because it is the usual one.
+const GAPS: [u64; 17] = [3, 3, 3, 3, 3, 3, 3, 3, 3, 0, 1, 2, 4, 5, 6, 255, u64::MAX];
+
+const SPELLINGS: [Spelling; 8] = [
+    Spelling::Upper,
+    Spelling::Upper,
+    Spelling::Upper,
+    Spelling::Upper,
+    Spelling::Upper,
+    Spelling::Lower,
+    Spelling::Mixed,
+    Spelling::Thymine,
+];
+
+fn main() -> io::Result<()> {
+    let mut out = BufWriter::new(io::stdout().lock());
+    for (gap, seq) in BENCH_SHEET {
+        writeln!(out, "{gap} {seq}")?;
+    }
+    let mut random = Random::new(SEED);
+    let short = (1..=90).flat_map(|length| [length; 22]);
+    let long = [255, 256].into_iter().flat_map(|length| [length; 10]);
+    for (length, temper) in short.chain(long).zip(Temper::ALL.into_iter().cycle()) {
+        let gap = random.pick(&GAPS);
+        let spelling = random.pick(&SPELLINGS);
+        let plain = strand(&mut random, temper, length);
+        write!(out, "{gap} ")?;
+        out.write_all(&spell(&mut random, spelling, &plain))?;
+        writeln!(out)?;
+    }
+    out.flush()
+}
