@@ -1,6 +1,6 @@
 -- Document 01's table of refusals, rows of checks, and the limits. Assumes nothing: these are definitions.
-use mathlib.Core.Bool.{Bool, true, false}
-use Prim.Native.Nat.{ℕ}
+use mathlib.Core.Bool.{Bool, true, false, _||_}
+use Prim.Native.Nat.{ℕ, zero, suc}
 use Rattle.refusals.specs.declared.Refusal.{Refusal}
 use Rattle.refusals.specs.declared.Refusal.the-variants.{Empty, NoBase, TooLong, TooShort, Unopened, NoBracket, Unclosed, Unsound, Unequal, Outside, Unbelievable}
 use Rattle.refusals.specs.declared.Place.{Place}
@@ -62,6 +62,16 @@ check false num at = clear
 abbrev pub then : Due → Due → Due
 then clear later = later
 then (refuse num at) later = refuse num at
+
+-- the checks at the places 0, 1, .., n − 1, in that order
+abbrev pub each : (ℕ → Due) → ℕ → Due
+each f zero = clear
+each f (suc n) = then (each f n) (f n)
+
+-- a test is true at some place below n
+abbrev pub some : (ℕ → Bool) → ℕ → Bool
+some f zero = false
+some f (suc n) = some f n || f n
 
 -- a refusal, and what a row of checks came to, in the table's terms
 abbrev pub dueOf : Refusal → Due
