@@ -1,0 +1,4 @@
+-- Laws that belong to no one function.
+pub mod Folds
+pub mod Glyphs
+pub mod Counts

@@ -1,0 +1,6 @@
+-- What the contracts of `structure` cite.
+pub mod Table
+pub mod Text
+pub mod Soundness
+pub mod Distance
+pub mod Calls
