@@ -1,0 +1,2 @@
+-- How answers are flattened for C.
+pub mod Flat
