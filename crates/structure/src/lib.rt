@@ -2,6 +2,7 @@
 // A pair table is lent numbers of 16 bits, one a position: its partner, or 65535 where it is unpaired.
 use refusals::Refusal;
 
+mod distance;
 mod table;
 
 // A whole number (positions, pairs or a distance), or the refusal.
