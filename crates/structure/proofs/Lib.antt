@@ -2,3 +2,4 @@
 pub mod Folds
 pub mod Glyphs
 pub mod Counts
+pub mod Checking
