@@ -2,5 +2,6 @@
 pub mod Folds
 pub mod Glyphs
 pub mod Counts
+pub mod Checking
 pub mod Distances
 pub mod OneAnswer
