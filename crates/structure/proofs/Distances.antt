@@ -1,18 +1,24 @@
 -- Mountains: what closes never exceeds what opened, so a running height is the height; and how far heights and sums go. Assumes nothing.
-use mathlib.Core.Path.{_≡_, ap}
-use mathlib.Core.Bool.{cond}
+use mathlib.Core.Path.{_≡_, refl, ap}
+use mathlib.Core.Bool.{Bool, true, false, cond, not, _||_}
 use mathlib.Core.Logic.{_≢_, by-cases}
+use mathlib.Core.List.{List}
 use Prim.Native.Nat.{ℕ, zero, suc, _+_, _-_, _*_, _<_, _≤_}
 use native.Mathlib.Omega.{arith}
 use native.Mathlib.Numerals.{add-one}
 use native.Mathlib.Decide.{decLt, ℕ-discrete}
-use lib.Dec.{eqb}
-use borrow.Author.Tests.{lt-ltb, le-ltb, eq-eqb, ne-eqb}
-use Rattle.refusals.specs.Refusals.{structureLimit}
-use Rattle.structure.specs.Table.{unpaired, Fold, opens, opened}
+use lib.Dec.{ltb, eqb}
+use lib.ListN.{length}
+use borrow.Author.Tests.{lt-ltb, le-ltb, ltb-false, eq-eqb, ne-eqb, eqb-true, not-false}
+use Rattle.refusals.specs.Refusals.{clear, check, then, structureLimit}
+use Rattle.refusals.specs.declared.Place.the-variants.{Nowhere}
+use Rattle.refusals.proofs.Laws.{check-clear, then-clear}
+use Rattle.structure.specs.Table.{unpaired, Fold, Sound, opens, opened}
+use Rattle.structure.specs.Soundness.{unsoundDue, bothDue}
 use Rattle.structure.specs.Distance.{lacks, apart, closes, closed, height, between, climbs}
 use Rattle.structure.proofs.Counts.{opens-none, opens-low, opens-high, opens-le}
 use Rattle.structure.proofs.Folds.{tail, inner, outer, first}
+use Rattle.structure.proofs.Checking.{sound}
 
 pub closes-none : (k v : ℕ) → v ≡ unpaired → closes k v ≡ 0
 closes-none k v e = rw (eq-eqb v unpaired e)
@@ -117,3 +123,29 @@ module _ (p q : ℕ → ℕ) where
         right = rw (add-one i) f;
         total = rw (add-one i) (omega (arith, ap (λ (z : ℕ). between z y′) e, ap (between (height p i)) f));
       }
+
+-- ---- what two tables are due
+
+-- tables of one length that are short enough are due what the first is, and then what the second is
+pub both-rest : (s t : List ℕ) → length s ≤ structureLimit → length t ≤ structureLimit → length s ≡ length t
+    → bothDue s t ≡ then (unsoundDue s) (unsoundDue t)
+unfolding bothDue
+both-rest s t l m e = rw (le-ltb structureLimit (length s) l, le-ltb structureLimit (length t) m, eq-eqb (length s) (length t) e)
+
+-- tables that are due nothing are short enough, of one length, and sound
+pub both-clear : (s t : List ℕ) → bothDue s t ≡ clear → (length s ≡ length t) × (length s ≤ structureLimit) × Sound s × Sound t
+unfolding bothDue
+both-clear s t e =
+    let long = ltb structureLimit (length s) || ltb structureLimit (length t) in
+    let other = not (eqb (length s) (length t)) in
+    let unsound = then (unsoundDue s) (unsoundDue t) in
+    let c = then-clear (check long 3 Nowhere) (then (check other 9 Nowhere) unsound) e in
+    let d = then-clear (check other 9 Nowhere) unsound (c .1) in
+    let f = then-clear (unsoundDue s) (unsoundDue t) (d .1) in
+    let same = eqb-true (length s) (length t) (not-false _ (check-clear other 9 Nowhere (d .0))) in
+    let short = ltb-false structureLimit (length s) (neither (ltb structureLimit (length s)) _ (check-clear long 3 Nowhere (c .0))) in
+    (same, short, sound s (omega arith) (f .0), sound t (omega arith) (f .1))
+  where
+    neither : (p q : Bool) → (p || q) ≡ false → p ≡ false
+    neither true q e = e
+    neither false q e = refl

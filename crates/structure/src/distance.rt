@@ -1,13 +1,38 @@
 // How far two structures of one length are apart: by their pairs, and by their mountains.
 use crate::table::opening;
+use crate::table::unsound;
+use refusals::Refusal;
+use refusals::STRUCTURE_LIMIT;
+use refusals::Verdict;
 ghost use mathlib.Core.Path.{_≡_};
 ghost use mathlib.Core.Bool.{cond};
 ghost use Prim.Native.Nat.{_+_, _-_, _≤_};
 ghost use lib.Dec.{eqb};
 ghost use lib.ListN.{length};
-ghost use Rattle.refusals.specs.Refusals.{structureLimit};
+ghost use Rattle.refusals.specs.Refusals.{structureLimit, told};
 ghost use Rattle.structure.specs.Table.{Sound, opens};
+ghost use Rattle.structure.specs.Soundness.{bothDue};
 ghost use Rattle.structure.specs.Distance.{basePairDistance, closes, between, mountainDistance};
+
+// What stands in the way of a distance: 3 for either table, 9, 8 for the first table before the second.
+pub fn both_checks(a: &[u16], b: &[u16]) -> Verdict
+    ensures { λ r. ⌜ told r ≡ bothDue (now (a .entry)) (now (b .entry)) ⌝ }
+{
+    if STRUCTURE_LIMIT < a.len() {
+        return Verdict::Refuse(Refusal::TooLong);
+    }
+    if STRUCTURE_LIMIT < b.len() {
+        return Verdict::Refuse(Refusal::TooLong);
+    }
+    if a.len() != b.len() {
+        return Verdict::Refuse(Refusal::Unequal);
+    }
+    let first = unsound(a);
+    if let Verdict::Refuse(q) = first {
+        return Verdict::Refuse(q);
+    }
+    unsound(b)
+}
 
 // 1 where position k, whose entry is v, opens a pair that the other table, whose entry is w, doesn't have.
 pub fn lacking(k: usize, v: u16, w: u16) -> usize
