@@ -2,3 +2,5 @@
 pub mod Folds
 pub mod Glyphs
 pub mod Counts
+pub mod Scan
+pub mod Stack

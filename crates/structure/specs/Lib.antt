@@ -4,3 +4,4 @@ pub mod Text
 pub mod Soundness
 pub mod Distance
 pub mod Calls
+pub mod Parsing
