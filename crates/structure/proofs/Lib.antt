@@ -3,5 +3,7 @@ pub mod Folds
 pub mod Glyphs
 pub mod Counts
 pub mod Checking
+pub mod Scan
+pub mod Stack
 pub mod Distances
 pub mod OneAnswer

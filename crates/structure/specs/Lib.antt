@@ -5,3 +5,4 @@ pub mod Soundness
 pub mod Distance
 pub mod Calls
 pub mod Walking
+pub mod Parsing
