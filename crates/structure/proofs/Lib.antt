@@ -7,3 +7,4 @@ pub mod Scan
 pub mod Stack
 pub mod Distances
 pub mod OneAnswer
+pub mod RoundTrip

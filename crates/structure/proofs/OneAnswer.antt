@@ -1,7 +1,7 @@
 -- Each call has one permitted answer for its input, and one permitted content of lent memory. Assumes nothing.
 -- What is due decides between acceptance and refusal, and which refusal; a sound table is decided by its brackets.
 use mathlib.Core.Path.{_≡_, refl, sym, ap, _∙_}
-use mathlib.Core.Bool.{true, false, true≢false}
+use mathlib.Core.Bool.{true≢false}
 use mathlib.Core.List.{List, _++_}
 use Prim.Native.Nat.{ℕ}
 use lib.ListN.{length, take, drop, take-append-drop}
