@@ -2,3 +2,9 @@
 pub mod Folds
 pub mod Glyphs
 pub mod Counts
+pub mod Checking
+pub mod Scan
+pub mod Stack
+pub mod Distances
+pub mod OneAnswer
+pub mod RoundTrip

@@ -4,3 +4,5 @@ pub mod Text
 pub mod Soundness
 pub mod Distance
 pub mod Calls
+pub mod Walking
+pub mod Parsing

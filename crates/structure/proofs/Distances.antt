@@ -1,0 +1,151 @@
+-- Mountains: what closes never exceeds what opened, so a running height is the height; and how far heights and sums go. Assumes nothing.
+use mathlib.Core.Path.{_≡_, refl, ap}
+use mathlib.Core.Bool.{Bool, true, false, cond, not, _||_}
+use mathlib.Core.Logic.{_≢_, by-cases}
+use mathlib.Core.List.{List}
+use Prim.Native.Nat.{ℕ, zero, suc, _+_, _-_, _*_, _<_, _≤_}
+use native.Mathlib.Omega.{arith}
+use native.Mathlib.Numerals.{add-one}
+use native.Mathlib.Decide.{decLt, ℕ-discrete}
+use lib.Dec.{ltb, eqb}
+use lib.ListN.{length}
+use borrow.Author.Tests.{lt-ltb, le-ltb, ltb-false, eq-eqb, ne-eqb, eqb-true, not-false}
+use Rattle.refusals.specs.Refusals.{clear, check, then, structureLimit}
+use Rattle.refusals.specs.declared.Place.the-variants.{Nowhere}
+use Rattle.refusals.proofs.Laws.{check-clear, then-clear}
+use Rattle.structure.specs.Table.{unpaired, Fold, Sound, opens, opened}
+use Rattle.structure.specs.Soundness.{unsoundDue, bothDue}
+use Rattle.structure.specs.Distance.{lacks, apart, closes, closed, height, between, climbs}
+use Rattle.structure.proofs.Counts.{opens-none, opens-low, opens-high, opens-le}
+use Rattle.structure.proofs.Folds.{tail, inner, outer, first}
+use Rattle.structure.proofs.Checking.{sound}
+
+pub closes-none : (k v : ℕ) → v ≡ unpaired → closes k v ≡ 0
+closes-none k v e = rw (eq-eqb v unpaired e)
+
+pub closes-low : (k v : ℕ) → v < k → v ≢ unpaired → closes k v ≡ 1
+closes-low k v h n = rw (ne-eqb v unpaired n, lt-ltb v k h)
+
+pub closes-high : (k v : ℕ) → k ≤ v → v ≢ unpaired → closes k v ≡ 0
+closes-high k v h n = rw (ne-eqb v unpaired n, le-ltb v k h)
+
+module _ (p : ℕ → ℕ) where
+  -- a span whose ends stand at one height: as many closed as opened within it
+  abbrev Level : ℕ → ℕ → Type 0
+  Level lo hi = closed p hi + opened p lo ≡ opened p hi + closed p lo
+
+  -- a pair around a level span
+  arm : {i hi : ℕ} → Fold p i hi → i < hi → p i ≢ unpaired → Level (suc i) (p i) → Level i (suc (p i))
+  arm {i} {hi} f h n e =
+      let w = f .fits in
+      let m = first p f h n in
+      let back : closes (p i) (p (p i)) ≡ 1 = closes-low (p i) (p (p i)) (omega arith) (omega arith) in
+      omega (arith, opens-high i (p i) (m .0) n, closes-high i (p i) (omega arith) n, back, opens-low (p i) (p (p i)) (omega arith) (omega arith))
+
+  level : (f lo hi : ℕ) → hi ≤ lo + f → lo ≤ hi → Fold p lo hi → Level lo hi
+  level zero lo hi m l s = let e : hi ≡ lo = omega arith in omega (arith, ap (closed p) e, ap (opened p) e)
+  level (suc f) lo hi m l s =
+      by-cases (ℕ-discrete hi lo)
+      (λ e. omega (arith, ap (closed p) e, ap (opened p) e))
+      (λ ne. by-cases (ℕ-discrete (p lo) unpaired)
+      (λ e. let r = level f (suc lo) hi (omega arith) (omega arith) (tail p s e) in
+      omega (arith, opens-none lo (p lo) e, closes-none lo (p lo) e))
+      (λ n. let o = first p s (omega arith) n in
+      let a = arm s (omega arith) n (level f (suc lo) (p lo) (omega arith) (omega arith) (inner p s (o .0) (o .1))) in
+      let r = level f (suc (p lo)) hi (omega arith) (omega arith) (outer p s (o .0) (o .1)) in
+      omega arith))
+
+  -- within a span that folds, what closed never exceeds what opened
+  below : (f lo hi k : ℕ) → hi ≤ lo + f → Fold p lo hi → lo ≤ k → k ≤ hi → closed p k + opened p lo ≤ opened p k + closed p lo
+  below zero lo hi k m s l h = let e : k ≡ lo = omega arith in omega (arith, ap (closed p) e, ap (opened p) e)
+  below (suc f) lo hi k m s l h =
+      by-cases (ℕ-discrete k lo)
+      (λ e. omega (arith, ap (closed p) e, ap (opened p) e))
+      (λ ne. by-cases (ℕ-discrete (p lo) unpaired)
+      (λ e. let r = below f (suc lo) hi k (omega arith) (tail p s e) (omega arith) h in
+      omega (arith, opens-none lo (p lo) e, closes-none lo (p lo) e))
+      (λ n. let o = first p s (omega arith) n in
+      let g = inner p s (o .0) (o .1) in
+      by-cases (decLt (p lo) k)
+      (λ u. let a = arm s (omega arith) n (level f (suc lo) (p lo) (omega arith) (omega arith) g) in
+      let r = below f (suc (p lo)) hi k (omega arith) (outer p s (o .0) (o .1)) u h in
+      omega arith)
+      (λ u. let r = below f (suc lo) (p lo) k (omega arith) g (omega arith) (omega arith) in
+      omega (arith, opens-high lo (p lo) (o .0) n, closes-high lo (p lo) (omega arith) n))))
+
+  pub closed-below : {lo hi k : ℕ} → Fold p lo hi → lo ≤ k → k ≤ hi → closed p k + opened p lo ≤ opened p k + closed p lo
+  closed-below {lo} {hi} {k} s l h = below hi lo hi k (omega arith) s l h
+
+  -- the ends of a span that folds stand at one height
+  pub closed-level : {lo hi : ℕ} → Fold p lo hi → lo ≤ hi → closed p hi + opened p lo ≡ opened p hi + closed p lo
+  closed-level {lo} {hi} s l = level hi lo hi (omega arith) l s
+
+  -- one step of a running height: it never falls below the ground, and is the height at the position passed
+  pub height-step : {n : ℕ} (i h : ℕ) → Fold p 0 n → i < n → h ≡ opened p i - closed p i
+      → (closes i (p i) ≤ h + opens i (p i)) × ((h + opens i (p i)) - closes i (p i) ≡ height p i)
+  height-step {n} i h s l e =
+      let u = closed-below {k = i} s (omega arith) (omega arith) in
+      let v = closed-below {k = suc i} s (omega arith) l in
+      (omega arith, omega arith)
+
+  pub opened-le : (k : ℕ) → opened p k ≤ k
+  opened-le zero = omega arith
+  opened-le (suc k) = omega (arith, opened-le k, opens-le k (p k))
+
+-- a pair opens at a position once in each table
+pub lacking-le : (k v w : ℕ) → cond (eqb w v) 0 (opens k v) ≤ 1
+lacking-le k v w = by-cases (ℕ-discrete w v) (λ e. rw (eq-eqb w v e) (omega arith)) (λ n. rw (ne-eqb w v n) (opens-le k v))
+
+module _ (p q : ℕ → ℕ) where
+  pub apart-step : (i n v : ℕ) → n ≡ apart p q i → v ≡ lacks p q i + lacks q p i → n + v ≡ apart p q (i + 1)
+  apart-step i n v e o = rw (add-one i) (omega arith)
+
+  pub apart-le : (k : ℕ) → apart p q k ≤ 2 * k
+  apart-le zero = omega arith
+  apart-le (suc k) = omega (arith, apart-le k, lacking-le k (p k) (q k), lacking-le k (q k) (p k))
+
+  pub climbs-le : (k : ℕ) → k ≤ structureLimit → climbs p q k ≤ structureLimit * k
+  climbs-le zero h = omega arith
+  climbs-le (suc k) h = omega (arith, climbs-le k (omega arith), opened-le p (suc k), opened-le q (suc k))
+
+  -- where a walk along both mountains stands before position i: the heights x and y, and the sum n so far
+  pub record Climbing (i x y n : ℕ) : Type 0 where
+    pub left : x ≡ opened p i - closed p i
+    pub right : y ≡ opened q i - closed q i
+    pub total : n ≡ climbs p q i
+
+  pub climbing-step : {x y n : ℕ} (i x′ y′ d : ℕ) → Climbing i x y n → x′ ≡ height p i → y′ ≡ height q i → d ≡ between x′ y′
+      → Climbing (i + 1) x′ y′ (n + d)
+  climbing-step i x′ y′ d c e f g =
+      let t = c .total in
+      record {
+        left = rw (add-one i) e;
+        right = rw (add-one i) f;
+        total = rw (add-one i) (omega (arith, ap (λ (z : ℕ). between z y′) e, ap (between (height p i)) f));
+      }
+
+-- ---- what two tables are due
+
+-- tables of one length that are short enough are due what the first is, and then what the second is
+pub both-rest : (s t : List ℕ) → length s ≤ structureLimit → length t ≤ structureLimit → length s ≡ length t
+    → bothDue s t ≡ then (unsoundDue s) (unsoundDue t)
+unfolding bothDue
+both-rest s t l m e = rw (le-ltb structureLimit (length s) l, le-ltb structureLimit (length t) m, eq-eqb (length s) (length t) e)
+
+-- tables that are due nothing are short enough, of one length, and sound
+pub both-clear : (s t : List ℕ) → bothDue s t ≡ clear → (length s ≡ length t) × (length s ≤ structureLimit) × Sound s × Sound t
+unfolding bothDue
+both-clear s t e =
+    let long = ltb structureLimit (length s) || ltb structureLimit (length t) in
+    let other = not (eqb (length s) (length t)) in
+    let unsound = then (unsoundDue s) (unsoundDue t) in
+    let c = then-clear (check long 3 Nowhere) (then (check other 9 Nowhere) unsound) e in
+    let d = then-clear (check other 9 Nowhere) unsound (c .1) in
+    let f = then-clear (unsoundDue s) (unsoundDue t) (d .1) in
+    let same = eqb-true (length s) (length t) (not-false _ (check-clear other 9 Nowhere (d .0))) in
+    let short = ltb-false structureLimit (length s) (neither (ltb structureLimit (length s)) _ (check-clear long 3 Nowhere (c .0))) in
+    (same, short, sound s (omega arith) (f .0), sound t (omega arith) (f .1))
+  where
+    neither : (p q : Bool) → (p || q) ≡ false → p ≡ false
+    neither true q e = e
+    neither false q e = refl
