@@ -57,6 +57,61 @@ bool ykm_can_pair(uint8_t a, uint8_t b);
  */
 size_t ykm_pair_index(uint8_t a, uint8_t b);
 
+/*
+ * Structures. A pair table is 16-bit numbers, one a position: its partner, or YKM_UNPAIRED. Structures
+ * and bracket text have 0 to 4,096 positions (else refusal 3). Nothing is written before the whole
+ * input is judged, and what a lent buffer has beyond the need is never changed.
+ *
+ * A number, or the refusal. value is 0 in a refusal.
+ */
+#define YKM_UNPAIRED 65535
+typedef struct {
+    uint32_t number;
+    size_t place;
+    size_t value;
+} ykm_answer;
+
+/*
+ * Bracket text into a pair table, which it writes to the first text_length entries of pairs.
+ * value: text_length. Refusals: 3; 5 or 6 at the first offending place; 7 at the leftmost `(`
+ * that is never closed; 4 if pairs is too short.
+ *
+ *     ykm_from_dot_bracket("(.)", 3, pairs, 3)      writes 2 65535 0
+ */
+ykm_answer ykm_from_dot_bracket(const uint8_t *text, size_t text_length, uint16_t *pairs, size_t pairs_length);
+
+/*
+ * A pair table into bracket text, which it writes to the first pairs_length bytes of text.
+ * value: pairs_length. Refusals: 3; 8 at the lowest unsound place; 4 if text is too short.
+ */
+ykm_answer ykm_to_dot_bracket(const uint16_t *pairs, size_t pairs_length, uint8_t *text, size_t text_length);
+
+/*
+ * The pairs i < j by rising i, written to out as i, j, i, j, ... value: the number of pairs.
+ * Refusals: 3; 8; 4 if out is shorter than twice that.
+ */
+ykm_answer ykm_base_pairs(const uint16_t *pairs, size_t pairs_length, uint16_t *out, size_t out_length);
+
+/* value: 1 if position i is paired, 0 if it isn't or is outside. Refusals: 3; 8. */
+ykm_answer ykm_is_paired(const uint16_t *pairs, size_t pairs_length, size_t i);
+
+/* value: the partner of position i, YKM_NOWHERE if it has none or is outside. Refusals: 3; 8. */
+ykm_answer ykm_partner(const uint16_t *pairs, size_t pairs_length, size_t i);
+
+/* value: the number of pairs. Refusals: 3; 8. */
+ykm_answer ykm_num_pairs(const uint16_t *pairs, size_t pairs_length);
+
+/*
+ * value: the pairs that are in one structure and not in the other.
+ * Refusals: 3; 9 if the lengths differ; 8, the first table before the second.
+ */
+ykm_answer ykm_base_pair_distance(const uint16_t *a, size_t a_length, const uint16_t *b, size_t b_length);
+
+/*
+ * value: the sum of the absolute differences of the mountain heights. Refusals: as above.
+ */
+ykm_answer ykm_mountain_distance(const uint16_t *a, size_t a_length, const uint16_t *b, size_t b_length);
+
 #ifdef __cplusplus
 }
 #endif

@@ -50,6 +50,36 @@ static void say(uint64_t value) {
     for (int k = 0; k < 8; k++) give((uint8_t)(value >> (8 * k)));
 }
 
+/* A lent buffer, with guards behind it: what a call writes there is a fault. */
+enum { GUARD = 16, ROOM = 1 << 20, BUFFERS = 6 };
+static _Alignas(16) uint8_t memory[BUFFERS][ROOM + GUARD];
+
+typedef struct {
+    void *at;
+    size_t count, bytes;
+} buffer;
+
+static buffer lend(int which, size_t width) {
+    buffer b = {memory[which], number(), 0};
+    if (b.count > ROOM / width) _exit(5);
+    b.bytes = b.count * width;
+    for (size_t k = 0; k < b.bytes; k++) memory[which][k] = take();
+    for (size_t k = 0; k < GUARD; k++) memory[which][b.bytes + k] = 0xA5;
+    return b;
+}
+
+static void back(buffer b) {
+    const uint8_t *bytes = b.at;
+    for (size_t k = 0; k < GUARD; k++) if (bytes[b.bytes + k] != 0xA5) _exit(6);
+    for (size_t k = 0; k < b.bytes; k++) give(bytes[k]);
+}
+
+static void tell(ykm_answer answer) {
+    say(answer.number);
+    say(answer.place);
+    say(answer.value);
+}
+
 int main(void) {
     for (;;) switch (number()) {
         case 0: {
@@ -71,6 +101,49 @@ int main(void) {
         case 3: {
             uint8_t a = (uint8_t)number(), b = (uint8_t)number();
             say(ykm_pair_index(a, b));
+            break;
+        }
+        case 4: {
+            buffer text = lend(0, 1), pairs = lend(1, 2);
+            tell(ykm_from_dot_bracket(text.at, text.count, pairs.at, pairs.count));
+            back(pairs);
+            break;
+        }
+        case 5: {
+            buffer pairs = lend(0, 2), text = lend(1, 1);
+            tell(ykm_to_dot_bracket(pairs.at, pairs.count, text.at, text.count));
+            back(text);
+            break;
+        }
+        case 6: {
+            buffer pairs = lend(0, 2), out = lend(1, 2);
+            tell(ykm_base_pairs(pairs.at, pairs.count, out.at, out.count));
+            back(out);
+            break;
+        }
+        case 7: {
+            buffer pairs = lend(0, 2);
+            tell(ykm_is_paired(pairs.at, pairs.count, number()));
+            break;
+        }
+        case 8: {
+            buffer pairs = lend(0, 2);
+            tell(ykm_partner(pairs.at, pairs.count, number()));
+            break;
+        }
+        case 9: {
+            buffer pairs = lend(0, 2);
+            tell(ykm_num_pairs(pairs.at, pairs.count));
+            break;
+        }
+        case 10: {
+            buffer a = lend(0, 2), b = lend(1, 2);
+            tell(ykm_base_pair_distance(a.at, a.count, b.at, b.count));
+            break;
+        }
+        case 11: {
+            buffer a = lend(0, 2), b = lend(1, 2);
+            tell(ykm_mountain_distance(a.at, a.count, b.at, b.count));
             break;
         }
         default: _exit(4);

@@ -3,10 +3,10 @@
 //! The archive is for x86-64. On another host the program runs it under an emulator, so that
 //! everything above this module is tried there too.
 
-use crate::ffi;
+use crate::ffi::{Answer, Base};
 use std::io::{BufReader, Read, Write};
 use std::process::{Child, ChildStdin, ChildStdout, Command, Stdio};
-use std::sync::{Mutex, PoisonError};
+use std::sync::{Mutex, MutexGuard, PoisonError};
 
 struct Bridge {
     _program: Child,
@@ -35,60 +35,188 @@ impl Bridge {
 
 static BRIDGE: Mutex<Option<Bridge>> = Mutex::new(None);
 
-/// A call: its number, then its arguments, then what comes back.
+/// A call being written: its number and its arguments.
 struct Call {
     bytes: Vec<u8>,
 }
 
+/// What a call answers, read in order; the bridge stays taken until all of it is read.
+struct Reply {
+    bridge: MutexGuard<'static, Option<Bridge>>,
+}
+
+/// The elements of lent buffers, lowest byte first.
+trait Element: Copy {
+    const WIDTH: usize;
+    fn put(self, bytes: &mut Vec<u8>);
+    fn get(bytes: &[u8]) -> Self;
+}
+
+impl Element for u8 {
+    const WIDTH: usize = 1;
+    fn put(self, bytes: &mut Vec<u8>) {
+        bytes.push(self);
+    }
+    fn get(bytes: &[u8]) -> u8 {
+        bytes[0]
+    }
+}
+
+impl Element for u16 {
+    const WIDTH: usize = 2;
+    fn put(self, bytes: &mut Vec<u8>) {
+        bytes.extend(self.to_le_bytes());
+    }
+    fn get(bytes: &[u8]) -> u16 {
+        u16::from_le_bytes([bytes[0], bytes[1]])
+    }
+}
+
 impl Call {
-    fn new(number: u64) -> Call {
-        Call { bytes: Vec::new() }.with(number)
+    fn new(number: usize) -> Call {
+        Call { bytes: Vec::new() }.number(number)
     }
 
-    fn with(mut self, value: u64) -> Call {
-        self.bytes.extend(value.to_le_bytes());
+    fn number(mut self, value: usize) -> Call {
+        self.bytes.extend((value as u64).to_le_bytes());
         self
     }
 
-    /// Makes the call, and reads its answer: so many numbers.
-    fn make<const FIELDS: usize>(self) -> [u64; FIELDS] {
+    /// A lent buffer.
+    unsafe fn lent<T: Element>(self, at: *const T, count: usize) -> Call {
+        let mut call = self.number(count);
+        for &element in std::slice::from_raw_parts(at, count) {
+            element.put(&mut call.bytes);
+        }
+        call
+    }
+
+    fn make(self) -> Reply {
         let mut bridge = BRIDGE.lock().unwrap_or_else(PoisonError::into_inner);
-        let bridge = bridge.get_or_insert_with(Bridge::start);
         bridge
+            .get_or_insert_with(Bridge::start)
             .calls
             .write_all(&self.bytes)
             .expect("the bridge takes calls");
-        std::array::from_fn(|_| {
-            let mut field = [0; 8];
-            bridge
-                .answers
-                .read_exact(&mut field)
-                .expect("the bridge answers");
-            u64::from_le_bytes(field)
-        })
+        Reply { bridge }
+    }
+
+    fn answer(self) -> Answer {
+        self.make().answer()
+    }
+}
+
+impl Reply {
+    fn read(&mut self, bytes: &mut [u8]) {
+        let bridge = self.bridge.as_mut().expect("the bridge was started");
+        bridge
+            .answers
+            .read_exact(bytes)
+            .expect("the bridge answers");
+    }
+
+    fn number(&mut self) -> usize {
+        let mut bytes = [0; 8];
+        self.read(&mut bytes);
+        u64::from_le_bytes(bytes) as usize
+    }
+
+    fn answer(&mut self) -> Answer {
+        Answer {
+            number: self.number() as u32,
+            place: self.number(),
+            value: self.number(),
+        }
+    }
+
+    /// A lent buffer as the call left it.
+    unsafe fn back<T: Element>(&mut self, at: *mut T, count: usize) {
+        let mut bytes = vec![0; count * T::WIDTH];
+        self.read(&mut bytes);
+        let elements = std::slice::from_raw_parts_mut(at, count);
+        for (element, bytes) in elements.iter_mut().zip(bytes.chunks(T::WIDTH)) {
+            *element = T::get(bytes);
+        }
     }
 }
 
 pub unsafe fn ykm_version() -> u32 {
-    let [version] = Call::new(0).make();
-    version as u32
+    Call::new(0).make().number() as u32
 }
 
-pub unsafe fn ykm_read_base(byte: u8) -> ffi::Base {
-    let [number, place, letter] = Call::new(1).with(byte.into()).make();
-    ffi::Base {
-        number: number as u32,
-        place: place as usize,
-        letter: letter as u8,
+pub unsafe fn ykm_read_base(byte: u8) -> Base {
+    let mut reply = Call::new(1).number(byte.into()).make();
+    Base {
+        number: reply.number() as u32,
+        place: reply.number(),
+        letter: reply.number() as u8,
     }
 }
 
 pub unsafe fn ykm_can_pair(a: u8, b: u8) -> bool {
-    let [answer] = Call::new(2).with(a.into()).with(b.into()).make();
-    answer != 0
+    Call::new(2)
+        .number(a.into())
+        .number(b.into())
+        .make()
+        .number()
+        != 0
 }
 
 pub unsafe fn ykm_pair_index(a: u8, b: u8) -> usize {
-    let [index] = Call::new(3).with(a.into()).with(b.into()).make();
-    index as usize
+    Call::new(3)
+        .number(a.into())
+        .number(b.into())
+        .make()
+        .number()
+}
+
+pub unsafe fn ykm_from_dot_bracket(
+    text: *const u8,
+    n: usize,
+    pairs: *mut u16,
+    room: usize,
+) -> Answer {
+    let mut reply = Call::new(4).lent(text, n).lent(pairs, room).make();
+    let answer = reply.answer();
+    reply.back(pairs, room);
+    answer
+}
+
+pub unsafe fn ykm_to_dot_bracket(
+    pairs: *const u16,
+    n: usize,
+    text: *mut u8,
+    room: usize,
+) -> Answer {
+    let mut reply = Call::new(5).lent(pairs, n).lent(text, room).make();
+    let answer = reply.answer();
+    reply.back(text, room);
+    answer
+}
+
+pub unsafe fn ykm_base_pairs(pairs: *const u16, n: usize, out: *mut u16, room: usize) -> Answer {
+    let mut reply = Call::new(6).lent(pairs, n).lent(out, room).make();
+    let answer = reply.answer();
+    reply.back(out, room);
+    answer
+}
+
+pub unsafe fn ykm_is_paired(pairs: *const u16, n: usize, i: usize) -> Answer {
+    Call::new(7).lent(pairs, n).number(i).answer()
+}
+
+pub unsafe fn ykm_partner(pairs: *const u16, n: usize, i: usize) -> Answer {
+    Call::new(8).lent(pairs, n).number(i).answer()
+}
+
+pub unsafe fn ykm_num_pairs(pairs: *const u16, n: usize) -> Answer {
+    Call::new(9).lent(pairs, n).answer()
+}
+
+pub unsafe fn ykm_base_pair_distance(a: *const u16, n: usize, b: *const u16, m: usize) -> Answer {
+    Call::new(10).lent(a, n).lent(b, m).answer()
+}
+
+pub unsafe fn ykm_mountain_distance(a: *const u16, n: usize, b: *const u16, m: usize) -> Answer {
+    Call::new(11).lent(a, n).lent(b, m).answer()
 }

@@ -13,13 +13,53 @@ pub struct Base {
     pub letter: u8,
 }
 
+#[repr(C)]
+pub struct Answer {
+    pub number: u32,
+    pub place: usize,
+    pub value: usize,
+}
+
 #[cfg(not(feature = "bridge"))]
 extern "C" {
     pub fn ykm_version() -> u32;
     pub fn ykm_read_base(byte: u8) -> Base;
     pub fn ykm_can_pair(a: u8, b: u8) -> bool;
     pub fn ykm_pair_index(a: u8, b: u8) -> usize;
+    pub fn ykm_from_dot_bracket(
+        text: *const u8,
+        text_length: usize,
+        pairs: *mut u16,
+        pairs_length: usize,
+    ) -> Answer;
+    pub fn ykm_to_dot_bracket(
+        pairs: *const u16,
+        pairs_length: usize,
+        text: *mut u8,
+        text_length: usize,
+    ) -> Answer;
+    pub fn ykm_base_pairs(
+        pairs: *const u16,
+        pairs_length: usize,
+        out: *mut u16,
+        out_length: usize,
+    ) -> Answer;
+    pub fn ykm_is_paired(pairs: *const u16, pairs_length: usize, i: usize) -> Answer;
+    pub fn ykm_partner(pairs: *const u16, pairs_length: usize, i: usize) -> Answer;
+    pub fn ykm_num_pairs(pairs: *const u16, pairs_length: usize) -> Answer;
+    pub fn ykm_base_pair_distance(
+        a: *const u16,
+        a_length: usize,
+        b: *const u16,
+        b_length: usize,
+    ) -> Answer;
+    pub fn ykm_mountain_distance(
+        a: *const u16,
+        a_length: usize,
+        b: *const u16,
+        b_length: usize,
+    ) -> Answer;
 }
 
 #[cfg(feature = "bridge")]
-pub use crate::bridge::{ykm_can_pair, ykm_pair_index, ykm_read_base, ykm_version};
+pub use crate::bridge::*;

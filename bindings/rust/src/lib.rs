@@ -14,9 +14,12 @@ mod bases;
 mod bridge;
 mod ffi;
 mod refusal;
+mod structure;
+pub mod tables;
 
 pub use bases::{can_pair, pair_index, read_base};
 pub use refusal::{Refusal, Result};
+pub use structure::{base_pair_distance, mountain_distance, RnaSecondaryStructure};
 
 /// The version of the library that is linked: major, minor, patch.
 pub fn version() -> (u32, u32, u32) {

@@ -1,30 +1,20 @@
 // The C interface: the libraries' calls under plain names, their answers flattened into structs of numbers. No logic stands here.
 // include/yukemasop.h declares each call; a struct's first field is the refusal's number (0: accepted), its second the place (the largest usize: none).
 use bases::Reading;
+use flat::YkmAnswer;
+use flat::YkmBase;
 use refusals::Place;
 use refusals::Refusal;
 ghost use mathlib.Core.Path.{_≡_};
 ghost use Rattle.bases.specs.Bases.{reads, canPair, pairIndex};
-ghost use Rattle.yukemasop.specs.Flat.{flatPlace, flatBase};
+ghost use Rattle.structure.specs.Calls.{Parses, Spells, Lists, Pairs, Partners, Counts, Measures};
+ghost use Rattle.structure.specs.Distance.{basePairDistance, mountainDistance};
+ghost use Rattle.yukemasop.specs.Flat.{flatBase, flatAnswer, flatPairing, flatPartner, Flat};
+
+mod flat;
 
 // 0.1.0, as major × 10,000 + minor × 100 + patch.
 pub const VERSION: u32 = 100;
-
-#[repr(C)]
-pub struct YkmBase {
-    pub number: u32,
-    pub place: usize,
-    pub letter: u8,
-}
-
-fn flat_place(place: Place) -> usize
-    ensures { λ r. ⌜ r ≡ flatPlace place ⌝ }
-{
-    match place {
-        Place::Nowhere => usize::MAX,
-        Place::At(k) => k,
-    }
-}
 
 #[no_mangle]
 pub extern "C" fn ykm_version() -> u32
@@ -42,13 +32,13 @@ pub extern "C" fn ykm_read_base(byte: u8) -> YkmBase
         let refusal = Refusal::NoBase(0);
         return YkmBase {
             number: refusals::number_of(refusal),
-            place: flat_place(refusals::place_of(refusal)),
+            place: flat::flat_place(refusals::place_of(refusal)),
             letter: 0,
         };
     };
     YkmBase {
         number: 0,
-        place: flat_place(Place::Nowhere),
+        place: flat::flat_place(Place::Nowhere),
         letter: bases::letter(base),
     }
 }
@@ -65,4 +55,60 @@ pub extern "C" fn ykm_pair_index(a: u8, b: u8) -> usize
     ensures { λ r. ⌜ r ≡ pairIndex a b ⌝ }
 {
     bases::pair_index(a, b)
+}
+
+#[no_mangle]
+pub extern "C" fn ykm_from_dot_bracket(text: &[u8], pairs: &mut [u16]) -> YkmAnswer
+    ensures { λ r. ⌜ Flat flatAnswer (Parses (now (text .entry)) (now (pairs .entry)) (now (pairs .exit))) r ⌝ }
+{
+    flat::flat_answer(structure::from_dot_bracket(text, pairs))
+}
+
+#[no_mangle]
+pub extern "C" fn ykm_to_dot_bracket(pairs: &[u16], text: &mut [u8]) -> YkmAnswer
+    ensures { λ r. ⌜ Flat flatAnswer (Spells (now (pairs .entry)) (now (text .entry)) (now (text .exit))) r ⌝ }
+{
+    flat::flat_answer(structure::to_dot_bracket(pairs, text))
+}
+
+#[no_mangle]
+pub extern "C" fn ykm_base_pairs(pairs: &[u16], out: &mut [u16]) -> YkmAnswer
+    ensures { λ r. ⌜ Flat flatAnswer (Lists (now (pairs .entry)) (now (out .entry)) (now (out .exit))) r ⌝ }
+{
+    flat::flat_answer(structure::base_pairs(pairs, out))
+}
+
+#[no_mangle]
+pub extern "C" fn ykm_is_paired(pairs: &[u16], i: usize) -> YkmAnswer
+    ensures { λ r. ⌜ Flat flatPairing (Pairs (now (pairs .entry)) i) r ⌝ }
+{
+    flat::flat_pairing(structure::is_paired(pairs, i))
+}
+
+#[no_mangle]
+pub extern "C" fn ykm_partner(pairs: &[u16], i: usize) -> YkmAnswer
+    ensures { λ r. ⌜ Flat flatPartner (Partners (now (pairs .entry)) i) r ⌝ }
+{
+    flat::flat_partner(structure::partner(pairs, i))
+}
+
+#[no_mangle]
+pub extern "C" fn ykm_num_pairs(pairs: &[u16]) -> YkmAnswer
+    ensures { λ r. ⌜ Flat flatAnswer (Counts (now (pairs .entry))) r ⌝ }
+{
+    flat::flat_answer(structure::num_pairs(pairs))
+}
+
+#[no_mangle]
+pub extern "C" fn ykm_base_pair_distance(a: &[u16], b: &[u16]) -> YkmAnswer
+    ensures { λ r. ⌜ Flat flatAnswer (Measures (now (a .entry)) (now (b .entry)) (basePairDistance (now (a .entry)) (now (b .entry)))) r ⌝ }
+{
+    flat::flat_answer(structure::base_pair_distance(a, b))
+}
+
+#[no_mangle]
+pub extern "C" fn ykm_mountain_distance(a: &[u16], b: &[u16]) -> YkmAnswer
+    ensures { λ r. ⌜ Flat flatAnswer (Measures (now (a .entry)) (now (b .entry)) (mountainDistance (now (a .entry)) (now (b .entry)))) r ⌝ }
+{
+    flat::flat_answer(structure::mountain_distance(a, b))
 }

@@ -1,17 +1,34 @@
-//! Compares Yukemasop with the original, call by call. `tests/compare` builds and runs it.
+//! Compares Yukemasop with the original, call by call: `compare [SEED [SIZE]]`.
 //!
-//! It ends at the first difference, with the input that shows it and status 1.
+//! `tests/compare` builds and runs it. It ends at the first difference, with the input that shows
+//! it and status 1. SIZE is the number of rounds of random cases; what is exhaustive is run in full.
 
 mod bases;
+mod slow;
+mod structures;
 
 use std::process::ExitCode;
+use strands::Random;
 
 /// What a part of the comparison found: a sentence on what was compared, or the first difference.
 type Found = Result<String, String>;
 
 fn main() -> ExitCode {
-    for part in [bases::compare()] {
-        match part {
+    let words: Vec<String> = std::env::args().skip(1).collect();
+    let numbers: Result<Vec<u64>, _> = words.iter().map(|word| word.parse()).collect();
+    let Ok(numbers) = numbers else {
+        eprintln!("compare takes a seed and a size, both numbers.");
+        return ExitCode::from(2);
+    };
+    let seed = numbers.first().copied().unwrap_or(1);
+    let size = numbers.get(1).copied().unwrap_or(1000) as usize;
+    let mut random = Random::new(seed);
+    println!("seed {seed}, size {size}");
+    let parts: [&mut dyn FnMut() -> Found; 2] = [&mut bases::compare, &mut || {
+        structures::compare(&mut random, size)
+    }];
+    for part in parts {
+        match part() {
             Ok(compared) => println!("{compared}: no difference"),
             Err(difference) => {
                 println!("a difference: {difference}");

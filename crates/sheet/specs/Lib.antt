@@ -1,0 +1,2 @@
+-- The bench sheet's proved lines.
+pub mod Lines

@@ -1,0 +1,84 @@
+// Answers as structs of numbers, for C.
+use refusals::Place;
+use refusals::Refusal;
+use structure::Answer;
+use structure::Pairing;
+use structure::Partner;
+ghost use mathlib.Core.Path.{_≡_};
+ghost use Rattle.yukemasop.specs.Flat.{flatPlace, flatRefusal, flatAnswer, flatPairing, flatPartner};
+
+#[repr(C)]
+pub struct YkmBase {
+    pub number: u32,
+    pub place: usize,
+    pub letter: u8,
+}
+
+#[repr(C)]
+pub struct YkmAnswer {
+    pub number: u32,
+    pub place: usize,
+    pub value: usize,
+}
+
+pub fn flat_place(place: Place) -> usize
+    ensures { λ r. ⌜ r ≡ flatPlace place ⌝ }
+{
+    match place {
+        Place::Nowhere => usize::MAX,
+        Place::At(k) => k,
+    }
+}
+
+pub fn flat_refusal(refusal: Refusal) -> YkmAnswer
+    ensures { λ r. ⌜ r ≡ flatRefusal refusal ⌝ }
+{
+    YkmAnswer {
+        number: refusals::number_of(refusal),
+        place: flat_place(refusals::place_of(refusal)),
+        value: 0,
+    }
+}
+
+pub fn flat_number(value: usize) -> YkmAnswer
+    ensures { λ r. ⌜ r ≡ flatAnswer (Answer.Number value) ⌝ }
+{
+    YkmAnswer {
+        number: 0,
+        place: flat_place(Place::Nowhere),
+        value,
+    }
+}
+
+pub fn flat_answer(answer: Answer) -> YkmAnswer
+    ensures { λ r. ⌜ r ≡ flatAnswer answer ⌝ }
+{
+    match answer {
+        Answer::Number(value) => flat_number(value),
+        Answer::Refused(refusal) => flat_refusal(refusal),
+    }
+}
+
+pub fn flat_pairing(pairing: Pairing) -> YkmAnswer
+    ensures { λ r. ⌜ r ≡ flatPairing pairing ⌝ }
+{
+    match pairing {
+        Pairing::Paired(paired) => {
+            if paired {
+                return flat_number(1);
+            }
+            flat_number(0)
+        }
+        Pairing::Refused(refusal) => flat_refusal(refusal),
+    }
+}
+
+pub fn flat_partner(partner: Partner) -> YkmAnswer
+    ensures { λ r. ⌜ r ≡ flatPartner partner ⌝ }
+{
+    match partner {
+        Partner::With(j) => flat_number(j),
+        Partner::Nobody => flat_number(flat_place(Place::Nowhere)),
+        Partner::Refused(refusal) => flat_refusal(refusal),
+    }
+}
