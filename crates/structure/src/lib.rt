@@ -33,8 +33,8 @@ pub enum Partner {
 pub fn from_dot_bracket(text: &[u8], pairs: &mut [u16]) -> Answer
     ensures { λ r. ⌜ Parses (now (text .entry)) (now (pairs .entry)) (now (pairs .exit)) r ⌝ }
 {
-    let n = text.len();
-    if STRUCTURE_LIMIT < n {
+    let positions = text.len();
+    if STRUCTURE_LIMIT < positions {
         return Answer::Refused(Refusal::TooLong);
     }
     let offence = text::first_offence(text);
@@ -42,14 +42,14 @@ pub fn from_dot_bracket(text: &[u8], pairs: &mut [u16]) -> Answer
         return Answer::Refused(refusal);
     }
     let unmatched = text::first_unmatched(text);
-    if let Verdict::Refuse(refusal) = unmatched {
-        return Answer::Refused(refusal);
+    if let Verdict::Refuse(unclosed) = unmatched {
+        return Answer::Refused(unclosed);
     }
-    if pairs.len() < n {
+    if pairs.len() < positions {
         return Answer::Refused(Refusal::TooShort);
     }
     text::fill(text, pairs);
-    Answer::Number(n)
+    Answer::Number(positions)
 }
 
 // How many pairs are in one of two structures and not in the other.

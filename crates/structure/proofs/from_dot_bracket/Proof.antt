@@ -4,7 +4,7 @@ use native.Mathlib.Omega.{arith}
 use lib.ListN.{length}
 use borrow.Author.Tests.{lt-ltb, le-ltb}
 use borrow.Author.Needs.{needs}
-use Rattle.refusals.specs.Refusals.{told}
+use Rattle.refusals.specs.Refusals.{told, structureLimit}
 use Rattle.structure.specs.Table.{view}
 use Rattle.structure.specs.Text.{textDue}
 use Rattle.structure.proofs.Scan.{clean, shut}
@@ -13,7 +13,9 @@ use Rattle.structure.proofs.from_dot_bracket.Tie as tie
 
 returns : tie.Need-returns
 unfolding textDue
-returns c = (simp (lt-ltb _ _ (c .if1 .taken)), refl)
+returns c =
+    let t = c .before .before .before .args .text .now in
+    (simp (lt-ltb structureLimit (length t) (omega arith)), refl)
 
 first-offence-requires : tie.Need-first-offence-requires
 first-offence-requires c κs = search needs
