@@ -1,0 +1,3 @@
+-- What the contracts of pair counting cite.
+pub mod Rule
+pub mod Allowed
