@@ -3,3 +3,4 @@ pub mod Folds
 pub mod Glyphs
 pub mod Counts
 pub mod Checking
+pub mod Spelling
