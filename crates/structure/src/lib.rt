@@ -76,11 +76,11 @@ pub fn partner(pairs: &[u16], i: usize) -> Mate
     if pairs.len() <= i {
         return Mate::Nobody;
     }
-    let j = pairs[i];
+    let j = pairs[i] as usize;
     if j == 65535 {
         return Mate::Nobody;
     }
-    Mate::With(j as usize)
+    Mate::With(j)
 }
 
 // Writes the pairs as i, j, i, j, .., i < j, by rising i. The number of pairs.

@@ -215,10 +215,10 @@ fn bracket(k: usize, v: u16) -> u8
     if v == 65535 {
         return b'.';
     }
-    if k < v as usize {
-        return b'(';
+    if v as usize <= k {
+        return b')';
     }
-    b')'
+    b'('
 }
 
 // Writes the brackets of a table.
@@ -243,7 +243,8 @@ fn enter(k: usize, v: u16, n: usize, out: &mut [u16]) -> usize
     if opening(k, v) == 0 {
         return n;
     }
-    out[n] = k as u16;
+    let i = k as u16;
+    out[n] = i;
     out[n + 1] = v;
     n + 2
 }
@@ -254,10 +255,10 @@ pub fn list(table: &[u16], out: &mut [u16])
     requires { ⌜ 2 * pairs (now table) ≤ length (now out) ⌝ }
     ensures { λ r. ⌜ now (out .exit) ≡ listed (view (now (table .entry))) (length (now (table .entry))) ++ drop (2 * pairs (now (table .entry))) (now (out .entry)) ⌝ }
 {
-    let mut n: usize = 0;
+    let mut end: usize = 0;
     let mut i: usize = 0;
     while i < table.len() {
-        n = enter(i, table[i], n, out);
+        end = enter(i, table[i], end, out);
         i += 1;
     }
 }

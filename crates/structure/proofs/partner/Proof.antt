@@ -33,15 +33,15 @@ mul-j c = search needs
 shared-slice-read-j : tie.Need-shared-slice-read-j
 shared-slice-read-j c = search needs
 
+cast-j : tie.Need-cast-j
+cast-j c = omega (arith, c .shared-slice-known2 .given (c .before .before .before .before .before .before .args .i))
+
 returns-3 : tie.Need-returns-3
 returns-3 c =
     let found = c .before .before .before in
     let a = found .before .before .before .before .args in
     let t = a .pairs .now in
     (sym (found .before .before .verify .ensures) ∙ ap told (found .enum-told .given .1), rw (lt-ltb (a .i) (length t) (c .before .before .if1 .left), eq-eqb (view t (a .i)) unpaired (c .if2 .taken)))
-
-cast-t6 : tie.Need-cast-t6
-cast-t6 c = omega (arith, c .before .shared-slice-known2 .given (c .before .before .before .before .before .before .before .args .i))
 
 returns-4 : tie.Need-returns-4
 returns-4 c =
@@ -61,6 +61,6 @@ partner-spec =
     returns-2
     mul-j
     shared-slice-read-j
+    cast-j
     returns-3
-    cast-t6
     returns-4)

@@ -18,8 +18,8 @@ returns c =
     let z : opens (a .k) (a .v) ≡ 0 = sym (c .before .opening .ensures) ∙ c .if1 .taken in
     (omega arith, rw z)
 
-cast-out : tie.Need-cast-out
-cast-out c = search needs
+cast-i : tie.Need-cast-i
+cast-i c = search needs
 
 mul-out : tie.Need-mul-out
 mul-out c = search needs
@@ -56,7 +56,7 @@ enter-spec =
     (tie.spec
     opening-requires
     returns
-    cast-out
+    cast-i
     mul-out
     slice-write-out
     add-out

@@ -1,5 +1,5 @@
 -- `structure::table::list` meets its contract. The loop's invariant: the pairs that open before `i` stand at the front of the memory as
--- it came, `n` numbers (Listing). Assumes nothing.
+-- it came, up to `end` (Listing). Assumes nothing.
 use mathlib.Core.Path.{_≡_}
 use Prim.Native.Nat.{_≤_, _-_}
 use native.Mathlib.Omega.{arith}
@@ -11,10 +11,10 @@ use Rattle.structure.proofs.table.list.Statement.{statement}
 use Rattle.structure.proofs.table.list.Tie as tie
 
 abbrev Inv-loop : tie.InvT-loop
-Inv-loop table out₀ n₀ i₀ out n i = (i ≤ length table) × Listing (view table) out₀ out n i
+Inv-loop table out₀ end₀ i₀ out end i = (i ≤ length table) × Listing (view table) out₀ out end i
 
 abbrev μ-loop : tie.MeasureT-loop
-μ-loop table out₀ n₀ i₀ out n i = length table - i
+μ-loop table out₀ end₀ i₀ out end i = length table - i
 
 loop-holds : tie.Need-loop-holds Inv-loop μ-loop
 loop-holds c = (omega arith, listing-start _ _)
