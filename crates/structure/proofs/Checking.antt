@@ -218,6 +218,11 @@ table-clear t e =
     let h = ltb-false structureLimit (length t) (check-clear (ltb structureLimit (length t)) 3 Nowhere (c .0)) in
     (h, sound t (omega arith) (c .1))
 
+-- a sound table that is short enough is due nothing
+pub clear-table : (t : List ℕ) → length t ≤ structureLimit → Sound t → tableDue t ≡ clear
+unfolding tableDue
+clear-table t h f = rw (le-ltb structureLimit (length t) h, sound-clear t f)
+
 -- ---- the room is looked at last
 module _ (t : List ℕ) (room need : ℕ) where
   pub write-refused : {num : ℕ} {at : Place} → tableDue t ≡ refuse num at → writeDue t room need ≡ refuse num at
@@ -231,3 +236,7 @@ module _ (t : List ℕ) (room need : ℕ) where
   pub write-clear : tableDue t ≡ clear → need ≤ room → writeDue t room need ≡ clear
   unfolding writeDue
   write-clear e h = rw (e, le-ltb room need h)
+
+  pub written-clear : writeDue t room need ≡ clear → tableDue t ≡ clear
+  unfolding writeDue
+  written-clear e = then-clear (tableDue t) (check (ltb room need) 4 Nowhere) e .0

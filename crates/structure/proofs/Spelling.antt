@@ -69,10 +69,6 @@ opened-rises p i (suc n) h = by-cases (ℕ-discrete i (suc n))
     (λ e. omega (arith, ap (opened p) e))
     (λ ne. omega (arith, opened-rises p i n (omega arith)))
 
-pub opened-le : (p : ℕ → ℕ) (n : ℕ) → opened p n ≤ n
-opened-le p zero = omega arith
-opened-le p (suc n) = omega (arith, opened-le p n, opens-le n (p n))
-
 pub listing-start : (p : ℕ → ℕ) (o : List ℕ) → Listing p o o 0 0
 listing-start p o = record { so-far = refl; long = refl; memory = refl }
 

@@ -15,7 +15,6 @@ use Rattle.structure.specs.declared.Mate.the-variants.{With, Nobody, Ref
 use Rattle.structure.specs.Table.{unpaired, view, Sound, brackets, opens, pairs}
 use Rattle.structure.specs.Text.{textDue}
 use Rattle.structure.specs.Soundness.{tableDue, writeDue, bothDue}
-use Rattle.structure.specs.Distance.{basePairDistance, mountainDistance}
 
 -- the first entries of the memory are the sound table with that text, and the rest is as it was
 pub record Written (s o o′ : List ℕ) : Type 0 where

@@ -5,7 +5,7 @@ use lib.ListN.{length}
 use borrow.Author.Needs.{needs}
 use Rattle.refusals.specs.Refusals.{told}
 use Rattle.structure.specs.Table.{view}
-use Rattle.structure.proofs.Spelling.{opened-le}
+use Rattle.structure.proofs.Counts.{opened-le}
 use Rattle.structure.proofs.Checking.{write-refused, write-short, write-clear, table-clear}
 use Rattle.structure.proofs.base_pairs.Statement.{statement}
 use Rattle.structure.proofs.base_pairs.Tie as tie
