@@ -5,15 +5,12 @@ use Prim.Native.Nat.{ℕ, _≤_}
 use native.Mathlib.Omega.{arith}
 use lib.ListN.{length}
 use borrow.Author.Tests.{le-ltb}
-use Rattle.refusals.specs.Refusals.{number, place, clear, refuse, dueOf}
-use Rattle.refusals.specs.declared.Refusal.{Refusal}
+use Rattle.refusals.specs.Refusals.{clear, refuse, dueOf}
 use Rattle.refusals.specs.declared.Place.the-variants.{At}
 use Rattle.refusals.proofs.Laws.{one-of}
-use Rattle.structure.specs.declared.Answer.{Answer}
 use Rattle.structure.specs.declared.Answer.the-variants.{Number, Refused}
-use Rattle.structure.specs.Calls.{Parses}
 use Rattle.structure.specs.Text.{textDue, unmatched}
-use Rattle.sheet.specs.Lines.{Line, text-accepted, text-refused, Says, table, Every}
+use Rattle.sheet.specs.Lines.{text-accepted, text-refused, Says, table, Every}
 
 accepted : (s : List ℕ) → ((room : ℕ) → length s ≤ room → textDue s room ≡ clear) → Says (text-accepted s)
 accepted s due o o′ (Number n) room p = ap Number (p .1)

@@ -23,18 +23,25 @@ fn tell(answer: Answer) {
     io::write_all(STDOUT_FILENO, b"\n");
 }
 
-fn text(s: &[u8]) {
-    let mut pairs = [0u16; 16];
+fn text(s: &[u8], pairs: &mut [u16]) {
     io::write_all(STDOUT_FILENO, b"text ");
     io::write_all(STDOUT_FILENO, s);
-    tell(structure::from_dot_bracket(s, &mut pairs));
+    tell(structure::from_dot_bracket(s, pairs));
+}
+
+fn texts() {
+    let mut pairs = [0u16; 4];
+    text(b"", &mut pairs);
+    text(b")(", &mut pairs);
+    text(b"(.x", &mut pairs);
+    text(b".(()", &mut pairs);
 }
 
 fn distances() {
     let mut a = [0u16; 9];
     let mut b = [0u16; 9];
-    tell(structure::from_dot_bracket(b"(((...)))", &mut a));
-    tell(structure::from_dot_bracket(b"((...))..", &mut b));
+    text(b"(((...)))", &mut a);
+    text(b"((...))..", &mut b);
     io::write_all(STDOUT_FILENO, b"base pair distance");
     tell(structure::base_pair_distance(&a, &b));
     io::write_all(STDOUT_FILENO, b"mountain distance");
@@ -56,10 +63,7 @@ fn limits() {
 }
 
 fn main() {
-    text(b"");
-    text(b")(");
-    text(b"(.x");
-    text(b".(()");
+    texts();
     distances();
     limits();
 }

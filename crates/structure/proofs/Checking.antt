@@ -7,14 +7,15 @@ use Prim.Native.Nat.{ℕ, suc, _+_, _<_, _≤_}
 use native.Mathlib.Omega.{arith}
 use native.Mathlib.Numerals.{add-one}
 use native.Mathlib.Decide.{decLt, ℕ-discrete}
-use lib.Dec.{eqb}
+use lib.Dec.{ltb, eqb}
 use lib.ListN.{length}
-use borrow.Author.Tests.{eq-eqb, ne-eqb, eqb-true, lt-ltb, le-ltb, le-leb, lt-leb, not-false}
-use Rattle.refusals.specs.Refusals.{Due, clear, refuse, check, each}
-use Rattle.refusals.specs.declared.Place.the-variants.{At}
+use borrow.Author.Tests.{eq-eqb, ne-eqb, eqb-true, lt-ltb, le-ltb, le-leb, lt-leb, ltb-false, not-false}
+use Rattle.refusals.specs.Refusals.{Due, clear, refuse, check, each, structureLimit}
+use Rattle.refusals.specs.declared.Place.{Place}
+use Rattle.refusals.specs.declared.Place.the-variants.{Nowhere, At}
 use Rattle.refusals.proofs.Laws.{check-clear, then-clear, each-clear, clear-each, each-found, some-at, some-false, false-some}
 use Rattle.structure.specs.Table.{unpaired, view, Fold, Sound, opens}
-use Rattle.structure.specs.Soundness.{named, over, crossed, unnamedDue, crossedDue, unsoundDue}
+use Rattle.structure.specs.Soundness.{named, over, crossed, unnamedDue, crossedDue, unsoundDue, tableDue, writeDue}
 use Rattle.structure.specs.Walking.{Named, AllNamed, FirstUnnamed, Over, Crossed, crossed-by, Crossing, crossing, Shut, Escapes, escapes, Tells, hopTo}
 use Rattle.structure.proofs.Folds.{one, join, wrap}
 use Rattle.structure.proofs.Counts.{opens-high, opens-none, opens-low}
@@ -208,3 +209,34 @@ unfolding unsoundDue
 sound t h e =
     let c = then-clear (unnamedDue (view t) (length t)) (crossedDue (view t) (length t)) e in
     clear-fold (view t) (length t) h (c .0) (c .1)
+
+-- a table that is due nothing is short enough, and sound
+pub table-clear : (t : List ℕ) → tableDue t ≡ clear → (length t ≤ structureLimit) × Sound t
+unfolding tableDue
+table-clear t e =
+    let c = then-clear (check (ltb structureLimit (length t)) 3 Nowhere) (unsoundDue t) e in
+    let h = ltb-false structureLimit (length t) (check-clear (ltb structureLimit (length t)) 3 Nowhere (c .0)) in
+    (h, sound t (omega arith) (c .1))
+
+-- a sound table that is short enough is due nothing
+pub clear-table : (t : List ℕ) → length t ≤ structureLimit → Sound t → tableDue t ≡ clear
+unfolding tableDue
+clear-table t h f = rw (le-ltb structureLimit (length t) h, sound-clear t f)
+
+-- ---- the room is looked at last
+module _ (t : List ℕ) (room need : ℕ) where
+  pub write-refused : {num : ℕ} {at : Place} → tableDue t ≡ refuse num at → writeDue t room need ≡ refuse num at
+  unfolding writeDue
+  write-refused e = rw e
+
+  pub write-short : tableDue t ≡ clear → room < need → writeDue t room need ≡ refuse 4 Nowhere
+  unfolding writeDue
+  write-short e h = rw (e, lt-ltb room need h)
+
+  pub write-clear : tableDue t ≡ clear → need ≤ room → writeDue t room need ≡ clear
+  unfolding writeDue
+  write-clear e h = rw (e, le-ltb room need h)
+
+  pub written-clear : writeDue t room need ≡ clear → tableDue t ≡ clear
+  unfolding writeDue
+  written-clear e = then-clear (tableDue t) (check (ltb room need) 4 Nowhere) e .0

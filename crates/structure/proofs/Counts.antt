@@ -1,5 +1,5 @@
 -- What a count of openings depends on. Assumes nothing.
-use mathlib.Core.Path.{_≡_, refl, sym, ap, _∙_}
+use mathlib.Core.Path.{_≡_, ap}
 use mathlib.Core.Logic.{_≢_, by-cases}
 use Prim.Native.Nat.{ℕ, zero, suc, _+_, _<_, _≤_}
 use native.Mathlib.Omega.{arith}
@@ -32,3 +32,8 @@ pub opens-le : (k v : ℕ) → opens k v ≤ 1
 opens-le k v = by-cases (ℕ-discrete v unpaired)
     (λ e. omega (arith, opens-none k v e))
     (λ n. by-cases (decLt k v) (λ h. omega (arith, opens-high k v h n)) (λ h. rw (ne-eqb v unpaired n, le-ltb k v (omega arith)) (omega arith)))
+
+-- no more positions open a pair than there are
+pub opened-le : (p : ℕ → ℕ) (k : ℕ) → opened p k ≤ k
+opened-le p zero = omega arith
+opened-le p (suc k) = omega (arith, opened-le p k, opens-le k (p k))

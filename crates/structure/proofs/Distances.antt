@@ -16,7 +16,7 @@ use Rattle.refusals.proofs.Laws.{check-clear, then-clear}
 use Rattle.structure.specs.Table.{unpaired, Fold, Sound, opens, opened}
 use Rattle.structure.specs.Soundness.{unsoundDue, bothDue}
 use Rattle.structure.specs.Distance.{lacks, apart, closes, closed, height, between, climbs}
-use Rattle.structure.proofs.Counts.{opens-none, opens-low, opens-high, opens-le}
+use Rattle.structure.proofs.Counts.{opens-none, opens-low, opens-high, opens-le, opened-le}
 use Rattle.structure.proofs.Folds.{tail, inner, outer, first}
 use Rattle.structure.proofs.Checking.{sound}
 
@@ -87,10 +87,6 @@ module _ (p : ℕ → ℕ) where
       let u = closed-below {k = i} s (omega arith) (omega arith) in
       let v = closed-below {k = suc i} s (omega arith) l in
       (omega arith, omega arith)
-
-  pub opened-le : (k : ℕ) → opened p k ≤ k
-  opened-le zero = omega arith
-  opened-le (suc k) = omega (arith, opened-le k, opens-le k (p k))
 
 -- a pair opens at a position once in each table
 pub lacking-le : (k v w : ℕ) → cond (eqb w v) 0 (opens k v) ≤ 1

@@ -10,8 +10,8 @@ use Rattle.structure.specs.declared.Answer.{Answer}
 use Rattle.structure.specs.declared.Answer.the-variants.{Number, Refused}
 use Rattle.structure.specs.declared.Pairing.{Pairing}
 use Rattle.structure.specs.declared.Pairing.the-variants.{Paired, Refused as PairingRefused}
-use Rattle.structure.specs.declared.Partner.{Partner}
-use Rattle.structure.specs.declared.Partner.the-variants.{With, Nobody, Refused as PartnerRefused}
+use Rattle.structure.specs.declared.Mate.{Mate}
+use Rattle.structure.specs.declared.Mate.the-variants.{With, Nobody, Refused as MateRefused}
 use Rattle.structure.specs.Calls.{Written, Parses, Spells, Lists, Pairs, Partners, Counts, Measures}
 use Rattle.structure.proofs.Glyphs.{one-table}
 
@@ -48,16 +48,16 @@ one-pairing t i (Paired v) (PairingRefused q) f g = absurd (one-of q (f .0) g)
 one-pairing t i (PairingRefused q) (Paired w) f g = absurd (one-of q (g .0) f)
 one-pairing t i (PairingRefused q) (PairingRefused r) f g = ap PairingRefused (one-refusal q r f g)
 
-pub one-partner : (t : List ℕ) (i : ℕ) (a a′ : Partner) → Partners t i a → Partners t i a′ → a ≡ a′
+pub one-partner : (t : List ℕ) (i : ℕ) (a a′ : Mate) → Partners t i a → Partners t i a′ → a ≡ a′
 one-partner t i (With j) (With k) f g = ap With (f .2 ∙ sym (g .2))
 one-partner t i (With j) Nobody f g = absurd (true≢false (sym (f .1) ∙ g .1))
-one-partner t i (With j) (PartnerRefused q) f g = absurd (one-of q (f .0) g)
+one-partner t i (With j) (MateRefused q) f g = absurd (one-of q (f .0) g)
 one-partner t i Nobody (With k) f g = absurd (true≢false (sym (g .1) ∙ f .1))
 one-partner t i Nobody Nobody f g = refl
-one-partner t i Nobody (PartnerRefused q) f g = absurd (one-of q (f .0) g)
-one-partner t i (PartnerRefused q) (With k) f g = absurd (one-of q (g .0) f)
-one-partner t i (PartnerRefused q) Nobody f g = absurd (one-of q (g .0) f)
-one-partner t i (PartnerRefused q) (PartnerRefused r) f g = ap PartnerRefused (one-refusal q r f g)
+one-partner t i Nobody (MateRefused q) f g = absurd (one-of q (f .0) g)
+one-partner t i (MateRefused q) (With k) f g = absurd (one-of q (g .0) f)
+one-partner t i (MateRefused q) Nobody f g = absurd (one-of q (g .0) f)
+one-partner t i (MateRefused q) (MateRefused r) f g = ap MateRefused (one-refusal q r f g)
 
 pub one-count : (t : List ℕ) (a a′ : Answer) → Counts t a → Counts t a′ → a ≡ a′
 one-count t (Number n) (Number m) f g = ap Number (f .1 ∙ sym (g .1))

@@ -10,21 +10,20 @@ use lib.Dec.{ltb}
 use lib.ListN.{length, take, drop}
 use lib.Seq.{take-at}
 use borrow.Author.Tests.{le-ltb, ltb-false}
-use Rattle.refusals.specs.Refusals.{clear, check, then, each, structureLimit}
+use Rattle.refusals.specs.Refusals.{clear, each, structureLimit}
 use Rattle.refusals.specs.declared.Place.the-variants.{Nowhere}
 use Rattle.refusals.proofs.Laws.{one-of, check-clear, then-clear, clear-each}
 use Rattle.structure.specs.declared.Answer.{Answer}
 use Rattle.structure.specs.declared.Answer.the-variants.{Number, Refused}
 use Rattle.structure.specs.Table.{unpaired, view, Sound, glyph, brackets, opens, opened}
 use Rattle.structure.specs.Text.{next, depth, offence, textDue}
-use Rattle.structure.specs.Soundness.{unsoundDue, tableDue, writeDue}
 use Rattle.structure.specs.Distance.{closes, closed}
 use Rattle.structure.specs.Calls.{Parses, Spells}
 use Rattle.structure.proofs.Glyphs.{glyph-none, glyph-high, glyph-low, brackets-at, brackets-long, one-table}
 use Rattle.structure.proofs.Counts.{opens-none, opens-low, opens-high}
 use Rattle.structure.proofs.Distances.{closes-none, closes-low, closes-high, closed-below, closed-level}
 use Rattle.structure.proofs.Scan.{offends-open, offends-dot, offends-close, shut-row}
-use Rattle.structure.proofs.Checking.{sound, sound-clear}
+use Rattle.structure.proofs.Checking.{table-clear, clear-table, write-clear, written-clear}
 use Rattle.structure.proofs.OneAnswer.{one-spelling}
 
 -- ---- table to text
@@ -80,21 +79,6 @@ spelt-clear t room f l h =
 
 -- ---- both ways
 
--- a sound table with room for its brackets is written out
-sound-write : (t : List ℕ) (room : ℕ) → Sound t → length t ≤ structureLimit → length t ≤ room → writeDue t room (length t) ≡ clear
-unfolding tableDue writeDue
-sound-write t room f l h = rw (le-ltb structureLimit (length t) l, sound-clear t f, le-ltb room (length t) h)
-
--- and a table that is written out is sound and short enough
-write-sound : (t : List ℕ) (room need : ℕ) → writeDue t room need ≡ clear → (length t ≤ structureLimit) × Sound t
-unfolding tableDue writeDue
-write-sound t room need e =
-    let long = check (ltb structureLimit (length t)) 3 Nowhere in
-    let c = then-clear (then long (unsoundDue t)) (check (ltb room need) 4 Nowhere) e .0 in
-    let d = then-clear long (unsoundDue t) c in
-    let l = ltb-false structureLimit (length t) (check-clear (ltb structureLimit (length t)) 3 Nowhere (d .0)) in
-    (l, sound t (omega arith) (d .1))
-
 -- a text that is accepted is short enough
 accepted-short : (s : List ℕ) (room : ℕ) → textDue s room ≡ clear → length s ≤ structureLimit
 unfolding textDue
@@ -108,7 +92,7 @@ text-table-text s o o′ u u′ n a p w room =
     let text : brackets t ≡ s = rw (p .1) (p .2 .text) in
     let long : length t ≡ n = sym (brackets-long t) ∙ ap length text ∙ sym (p .1) in
     let small = accepted-short s (length o) (p .0) in
-    let due = sound-write t (length u) fold (omega arith) (omega arith) in
+    let due = write-clear t (length u) (length t) (clear-table t (omega arith) fold) (omega arith) in
     let r = one-spelling t u u′ (brackets t ++ drop (length t) u) a (Number (length t)) w (due, refl, refl) in (
       r .0 ∙ ap Number long,
       ap (take n) (r .1) ∙ take-at (brackets t) (drop (length t) u) n (brackets-long t ∙ long) ∙ text,
@@ -127,6 +111,6 @@ parsed-back t u u′ (Refused q) f l h p = absurd (one-of q (spelt-clear t (leng
 pub table-text-table : (t o o′ u u′ : List ℕ) (n : ℕ) (a : Answer) → Spells t o o′ (Number n) → Parses (take n o′) u u′ a → length t ≤ length u
     → (a ≡ Number n) × (take n u′ ≡ t)
 table-text-table t o o′ u u′ n a w p room =
-    let due = write-sound t (length o) (length t) (w .0) in
+    let due = table-clear t (written-clear t (length o) (length t) (w .0)) in
     let text : take n o′ ≡ brackets t = ap (take n) (w .2) ∙ take-at (brackets t) (drop (length t) o) n (brackets-long t ∙ sym (w .1)) in
     rw (w .1) (parsed-back t u u′ a (due .1) (due .0) room (subst (λ (x : List ℕ). Parses x u u′ a) text p))

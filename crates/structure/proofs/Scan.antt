@@ -138,8 +138,8 @@ leftmost b first n s d =
     (is-left b n first (rises (b first) (rw z at u)) (λ m l r. let x = up m l r in omega arith))
 
 -- nothing is found exactly where nothing is open in the end
-pub shut : (b : ℕ → ℕ) (n : ℕ) → each (offence b) n ≡ clear → each (unclosed b n) n ≡ clear → depth b n ≡ 0
-shut b n e c = by-cases (ℕ-discrete (depth b n) 0) (λ z. z)
+pub shut : (b : ℕ → ℕ) (n : ℕ) → each (unclosed b n) n ≡ clear → depth b n ≡ 0
+shut b n c = by-cases (ℕ-discrete (depth b n) 0) (λ z. z)
     (λ d. let s = since b n in absurd (one-of (Unclosed (s .0)) c (leftmost b (s .0) n (s .1) d)))
 
 pub shut-row : (b : ℕ → ℕ) (n : ℕ) → depth b n ≡ 0 → each (unclosed b n) n ≡ clear

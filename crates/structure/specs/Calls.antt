@@ -10,12 +10,11 @@ use Rattle.structure.specs.declared.Answer.{Answer}
 use Rattle.structure.specs.declared.Answer.the-variants.{Number, Refused}
 use Rattle.structure.specs.declared.Pairing.{Pairing}
 use Rattle.structure.specs.declared.Pairing.the-variants.{Paired, Refused as PairingRefused}
-use Rattle.structure.specs.declared.Partner.{Partner}
-use Rattle.structure.specs.declared.Partner.the-variants.{With, Nobody, Refused as PartnerRefused}
+use Rattle.structure.specs.declared.Mate.{Mate}
+use Rattle.structure.specs.declared.Mate.the-variants.{With, Nobody, Refused as MateRefused}
 use Rattle.structure.specs.Table.{unpaired, view, Sound, brackets, opens, pairs}
 use Rattle.structure.specs.Text.{textDue}
 use Rattle.structure.specs.Soundness.{tableDue, writeDue, bothDue}
-use Rattle.structure.specs.Distance.{basePairDistance, mountainDistance}
 
 -- the first entries of the memory are the sound table with that text, and the rest is as it was
 pub record Written (s o o′ : List ℕ) : Type 0 where
@@ -53,10 +52,10 @@ Pairs t i (Paired v) = (tableDue t ≡ clear) × (v ≡ isPaired t i)
 Pairs t i (PairingRefused q) = tableDue t ≡ dueOf q
 
 -- `partner`
-abbrev pub Partners : List ℕ → ℕ → Partner → Type 0
+abbrev pub Partners : List ℕ → ℕ → Mate → Type 0
 Partners t i (With j) = (tableDue t ≡ clear) × (isPaired t i ≡ true) × (j ≡ view t i)
 Partners t i Nobody = (tableDue t ≡ clear) × (isPaired t i ≡ false)
-Partners t i (PartnerRefused q) = tableDue t ≡ dueOf q
+Partners t i (MateRefused q) = tableDue t ≡ dueOf q
 
 -- `num_pairs`
 abbrev pub Counts : List ℕ → Answer → Type 0

@@ -1,10 +1,10 @@
 // Structures: pair tables, bracket text, queries and distances. Knows nothing of folding.
 // A pair table is lent numbers of 16 bits, one a position: its partner, or 65535 where it is unpaired.
-ghost use Rattle.structure.specs.Distance.{basePairDistance, mountainDistance};
-ghost use Rattle.structure.specs.Calls.{Parses, Measures};
 use refusals::Refusal;
 use refusals::STRUCTURE_LIMIT;
 use refusals::Verdict;
+ghost use Rattle.structure.specs.Calls.{Parses, Spells, Lists, Pairs, Partners, Counts, Measures};
+ghost use Rattle.structure.specs.Distance.{basePairDistance, mountainDistance};
 
 mod distance;
 mod table;
@@ -23,7 +23,7 @@ pub enum Pairing {
 }
 
 // A position's partner, that it has none, or the refusal.
-pub enum Partner {
+pub enum Mate {
     With(usize),
     Nobody,
     Refused(Refusal),
@@ -50,6 +50,80 @@ pub fn from_dot_bracket(text: &[u8], pairs: &mut [u16]) -> Answer
     }
     text::fill(text, pairs);
     Answer::Number(positions)
+}
+
+// The brackets of a table: `(` where a pair opens, `)` where it closes, `.` where nothing pairs. The number of positions.
+pub fn to_dot_bracket(pairs: &[u16], text: &mut [u8]) -> Answer
+    ensures { λ r. ⌜ Spells (now (pairs .entry)) (now (text .entry)) (now (text .exit)) r ⌝ }
+{
+    let found = table::verify(pairs);
+    if let Verdict::Refuse(refusal) = found {
+        return Answer::Refused(refusal);
+    }
+    if text.len() < pairs.len() {
+        return Answer::Refused(Refusal::TooShort);
+    }
+    table::spell(pairs, text);
+    Answer::Number(pairs.len())
+}
+
+// The number of pairs.
+pub fn num_pairs(pairs: &[u16]) -> Answer
+    ensures { λ r. ⌜ Counts (now (pairs .entry)) r ⌝ }
+{
+    let found = table::verify(pairs);
+    if let Verdict::Refuse(refusal) = found {
+        return Answer::Refused(refusal);
+    }
+    Answer::Number(table::count(pairs))
+}
+
+// Does position i have a partner? A place outside has none.
+pub fn is_paired(pairs: &[u16], i: usize) -> Pairing
+    ensures { λ r. ⌜ Pairs (now (pairs .entry)) i r ⌝ }
+{
+    let found = table::verify(pairs);
+    if let Verdict::Refuse(refusal) = found {
+        return Pairing::Refused(refusal);
+    }
+    if pairs.len() <= i {
+        return Pairing::Paired(false);
+    }
+    Pairing::Paired(pairs[i] != 65535)
+}
+
+// The partner of position i. A place outside has none.
+pub fn partner(pairs: &[u16], i: usize) -> Mate
+    ensures { λ r. ⌜ Partners (now (pairs .entry)) i r ⌝ }
+{
+    let found = table::verify(pairs);
+    if let Verdict::Refuse(refusal) = found {
+        return Mate::Refused(refusal);
+    }
+    if pairs.len() <= i {
+        return Mate::Nobody;
+    }
+    let j = pairs[i] as usize;
+    if j == 65535 {
+        return Mate::Nobody;
+    }
+    Mate::With(j)
+}
+
+// Writes the pairs as i, j, i, j, .., i < j, by rising i. The number of pairs.
+pub fn base_pairs(pairs: &[u16], out: &mut [u16]) -> Answer
+    ensures { λ r. ⌜ Lists (now (pairs .entry)) (now (out .entry)) (now (out .exit)) r ⌝ }
+{
+    let found = table::verify(pairs);
+    if let Verdict::Refuse(refusal) = found {
+        return Answer::Refused(refusal);
+    }
+    let n = table::count(pairs);
+    if out.len() < 2 * n {
+        return Answer::Refused(Refusal::TooShort);
+    }
+    table::list(pairs, out);
+    Answer::Number(n)
 }
 
 // How many pairs are in one of two structures and not in the other.

@@ -3,13 +3,16 @@ use refusals::Refusal;
 use refusals::STRUCTURE_LIMIT;
 use refusals::Verdict;
 ghost use mathlib.Core.Path.{_≡_};
-ghost use Prim.Native.Nat.{_+_, _<_, _≤_};
-ghost use lib.ListN.{length};
+ghost use mathlib.Core.List.{_++_};
+ghost use Prim.Native.Nat.{_+_, _*_, _<_, _≤_};
+ghost use lib.ListN.{length, drop};
+ghost use lib.Seq.{sets};
 ghost use Rattle.refusals.specs.Refusals.{structureLimit, told, refuse};
 ghost use Rattle.refusals.specs.declared.Place.the-variants.{At};
-ghost use Rattle.structure.specs.Table.{view, Fold, Sound, opens};
+ghost use Rattle.structure.specs.Table.{view, Fold, Sound, glyph, brackets, opens, pairs};
 ghost use Rattle.structure.specs.Soundness.{named, crossedDue, unsoundDue, tableDue};
-ghost use Rattle.structure.specs.Walking.{AllNamed, FirstUnnamed, Crossed, Crossing, Shut, Escapes, Tells, hopTo};
+ghost use Rattle.structure.specs.Walking.{AllNamed, FirstUnnamed, Crossed, Crossing, Shut, Escapes, Tells, hopTo, listedAt};
+ghost use Rattle.structure.specs.Calls.{listed};
 
 // 1 where the entry v of position k opens a pair.
 pub fn opening(k: usize, v: u16) -> usize
@@ -190,4 +193,72 @@ pub fn verify(table: &[u16]) -> Verdict
         return Verdict::Refuse(Refusal::TooLong);
     }
     unsound(table)
+}
+
+// The number of pairs of a table.
+pub fn count(table: &[u16]) -> usize
+    ensures { λ r. ⌜ r ≡ pairs (now (table .entry)) ⌝ }
+{
+    let mut n: usize = 0;
+    let mut i: usize = 0;
+    while i < table.len() {
+        n += opening(i, table[i]);
+        i += 1;
+    }
+    n
+}
+
+// The bracket of position k, whose entry is v.
+fn bracket(k: usize, v: u16) -> u8
+    ensures { λ r. ⌜ r ≡ glyph k v ⌝ }
+{
+    if v == 65535 {
+        return b'.';
+    }
+    if v as usize <= k {
+        return b')';
+    }
+    b'('
+}
+
+// Writes the brackets of a table.
+pub fn spell(table: &[u16], text: &mut [u8])
+    requires { ⌜ length (now table) ≤ length (now text) ⌝ }
+    ensures { λ r. ⌜ now (text .exit) ≡ brackets (now (table .entry)) ++ drop (length (now (table .entry))) (now (text .entry)) ⌝ }
+{
+    let mut i: usize = 0;
+    while i < table.len() {
+        text[i] = bracket(i, table[i]);
+        i += 1;
+    }
+}
+
+// Writes the pair that opens at k, where its entry v does, at place n, and says where the next one goes.
+fn enter(k: usize, v: u16, n: usize, out: &mut [u16]) -> usize
+    requires { ⌜ k < 65536 ⌝ }
+    requires { ⌜ n + 2 * opens k v ≤ length (now out) ⌝ }
+    ensures { λ r. ⌜ r ≡ n + 2 * opens k v ⌝ }
+    ensures { λ r. ⌜ now (out .exit) ≡ sets (now (out .entry)) n (listedAt k v) ⌝ }
+{
+    if opening(k, v) == 0 {
+        return n;
+    }
+    let i = k as u16;
+    out[n] = i;
+    out[n + 1] = v;
+    n + 2
+}
+
+// Writes the pairs of a table, by rising opening position.
+pub fn list(table: &[u16], out: &mut [u16])
+    requires { ⌜ length (now table) ≤ structureLimit ⌝ }
+    requires { ⌜ 2 * pairs (now table) ≤ length (now out) ⌝ }
+    ensures { λ r. ⌜ now (out .exit) ≡ listed (view (now (table .entry))) (length (now (table .entry))) ++ drop (2 * pairs (now (table .entry))) (now (out .entry)) ⌝ }
+{
+    let mut end: usize = 0;
+    let mut i: usize = 0;
+    while i < table.len() {
+        end = enter(i, table[i], end, out);
+        i += 1;
+    }
 }

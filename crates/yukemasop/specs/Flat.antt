@@ -11,8 +11,8 @@ use Rattle.structure.specs.declared.Answer.{Answer}
 use Rattle.structure.specs.declared.Answer.the-variants.{Number, Refused}
 use Rattle.structure.specs.declared.Pairing.{Pairing}
 use Rattle.structure.specs.declared.Pairing.the-variants.{Paired, Refused as PairingRefused}
-use Rattle.structure.specs.declared.Partner.{Partner}
-use Rattle.structure.specs.declared.Partner.the-variants.{With, Nobody, Refused as PartnerRefused}
+use Rattle.structure.specs.declared.Mate.{Mate}
+use Rattle.structure.specs.declared.Mate.the-variants.{With, Nobody, Refused as MateRefused}
 use Rattle.yukemasop.specs.declared.flat.YkmBase.{YkmBase}
 use Rattle.yukemasop.specs.declared.flat.YkmAnswer.{YkmAnswer}
 
@@ -41,10 +41,10 @@ flatPairing (Paired v) = flatAnswer (Number (cond v 1 0))
 flatPairing (PairingRefused q) = flatRefusal q
 
 -- no partner is no place
-abbrev pub flatPartner : Partner → YkmAnswer
+abbrev pub flatPartner : Mate → YkmAnswer
 flatPartner (With j) = flatAnswer (Number j)
 flatPartner Nobody = flatAnswer (Number (flatPlace Nowhere))
-flatPartner (PartnerRefused q) = flatRefusal q
+flatPartner (MateRefused q) = flatRefusal q
 
 -- the struct is an answer that the library's call permits
 abbrev pub Flat : {A : Type 0} → (A → YkmAnswer) → (A → Type 0) → YkmAnswer → Type 0

@@ -2,8 +2,8 @@
 use refusals::Place;
 use refusals::Refusal;
 use structure::Answer;
+use structure::Mate;
 use structure::Pairing;
-use structure::Partner;
 ghost use mathlib.Core.Path.{_≡_};
 ghost use Rattle.yukemasop.specs.Flat.{flatPlace, flatRefusal, flatAnswer, flatPairing, flatPartner};
 
@@ -73,12 +73,12 @@ pub fn flat_pairing(pairing: Pairing) -> YkmAnswer
     }
 }
 
-pub fn flat_partner(partner: Partner) -> YkmAnswer
+pub fn flat_partner(partner: Mate) -> YkmAnswer
     ensures { λ r. ⌜ r ≡ flatPartner partner ⌝ }
 {
     match partner {
-        Partner::With(j) => flat_number(j),
-        Partner::Nobody => flat_number(flat_place(Place::Nowhere)),
-        Partner::Refused(refusal) => flat_refusal(refusal),
+        Mate::With(j) => flat_number(j),
+        Mate::Nobody => flat_number(flat_place(Place::Nowhere)),
+        Mate::Refused(refusal) => flat_refusal(refusal),
     }
 }

@@ -67,7 +67,7 @@ fill-requires c κs =
     let fine = sym (at .first-offence .ensures) ∙ ap told (judged .before .enum-told .given .1) in
     let closed = sym (judged .first-unmatched .ensures) ∙ ap told (c .before .before .enum-told2 .given .1) in
     let t = at .before .before .before .before .args .text .now in
-    (omega arith, (omega arith, (clean (view t) (length t) fine, shut (view t) (length t) fine closed)))
+    (omega arith, (omega arith, (clean (view t) (length t) fine, shut (view t) (length t) closed)))
 
 same-length : tie.Need-same-length
 same-length c = search needs

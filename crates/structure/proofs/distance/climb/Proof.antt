@@ -7,7 +7,8 @@ use lib.ListN.{length}
 use borrow.Author.Needs.{needs}
 use Rattle.structure.specs.Distance.{climbs}
 use Rattle.structure.specs.Table.{view}
-use Rattle.structure.proofs.Distances.{height-step, opened-le, Climbing, climbing-step, climbs-le}
+use Rattle.structure.proofs.Counts.{opened-le}
+use Rattle.structure.proofs.Distances.{height-step, Climbing, climbing-step, climbs-le}
 use Rattle.structure.proofs.distance.climb.Statement.{statement}
 use Rattle.structure.proofs.distance.climb.Tie as tie
 

@@ -32,8 +32,10 @@ lowest-crossed-requires c κs = (omega arith, c .before .nested .ensures .fails 
 returns-3 : tie.Need-returns-3
 unfolding unsoundDue
 returns-3 c =
-    let t = c .before .before .before .before .before .before .args .table .now in
-    rw (named-clear (view t) (length t) (all-named (view t) (length t) (c .before .before .before .before .first-unnamed .ensures) (omega arith)), c .lowest-crossed .ensures)
+    let f = c .before .before .before .before in
+    let t = f .before .before .args .table .now in
+    let named = all-named (view t) (length t) (f .first-unnamed .ensures) (omega arith) in
+    rw (named-clear (view t) (length t) named, c .lowest-crossed .ensures)
 
 pub unsound-spec : {M : Type 1} → statement M
 unsound-spec =

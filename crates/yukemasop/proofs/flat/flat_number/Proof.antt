@@ -1,15 +1,11 @@
+-- `yukemasop::flat::flat_number` meets its contract: no place is what `flatPlace` says. Assumes nothing.
 use borrow.Author.Needs.{needs}
 use Rattle.yukemasop.proofs.flat.flat_number.Statement.{statement}
 use Rattle.yukemasop.proofs.flat.flat_number.Tie as tie
-use Rattle.yukemasop.proofs.flat.flat_number.Reads as reads
-use Rattle.yukemasop.proofs.flat.flat_number.Lts as lts
-use Rattle.yukemasop.proofs.flat.flat_place.Reads as flat-place-reads
 
--- src/flat.rt:48:16
 flat-place-requires : tie.Need-flat-place-requires
 flat-place-requires c κs = search needs
 
--- src/flat.rt:43:1
 returns : tie.Need-returns
 returns c = simp (c .flat-place .ensures)
 

@@ -1,51 +1,37 @@
+-- `yukemasop::flat::flat_partner` meets its contract: no partner is no place. Assumes nothing.
 use Rattle.yukemasop.specs.Flat.{flatPartner}
 use mathlib.Core.Path.{sym, ap, _∙_}
 use borrow.Author.Needs.{needs}
 use Rattle.yukemasop.proofs.flat.flat_partner.Statement.{statement}
 use Rattle.yukemasop.proofs.flat.flat_partner.Tie as tie
-use Rattle.yukemasop.proofs.flat.flat_partner.Reads as reads
-use Rattle.yukemasop.proofs.flat.flat_partner.Lts as lts
-use Rattle.yukemasop.proofs.flat.flat_number.Reads as flat-number-reads
-use Rattle.yukemasop.proofs.flat.flat_place.Reads as flat-place-reads
-use Rattle.yukemasop.proofs.flat.flat_refusal.Reads as flat-refusal-reads
 
--- src/flat.rt:80:23
 enum-known-partner : tie.Need-enum-known-partner
 enum-known-partner c = search needs
 
--- src/flat.rt:80:29
 flat-number-requires : tie.Need-flat-number-requires
 flat-number-requires c κs = search needs
 
--- src/flat.rt:81:51
 enum-told : tie.Need-enum-told
 enum-told c = search needs
 
--- src/flat.rt:81:40
 flat-place-requires : tie.Need-flat-place-requires
 flat-place-requires c κs = search needs
 
--- src/flat.rt:81:28
 flat-number-requires-2 : tie.Need-flat-number-requires-2
 flat-number-requires-2 c κs = search needs
 
--- src/flat.rt:82:26
 enum-known-partner-2 : tie.Need-enum-known-partner-2
 enum-known-partner-2 c = search needs
 
--- src/flat.rt:82:38
 flat-refusal-requires : tie.Need-flat-refusal-requires
 flat-refusal-requires c κs = search needs
 
--- src/flat.rt:76:1
 returns : tie.Need-returns
 returns c = c .flat-number .ensures ∙ sym (ap flatPartner (c .before .before .partner .given .1))
 
--- src/flat.rt:76:1
 returns-2 : tie.Need-returns-2
 returns-2 c = simp (c .flat-number2 .ensures, c .before .flat-place .ensures, c .before .before .enum-told .given .1)
 
--- src/flat.rt:76:1
 returns-3 : tie.Need-returns-3
 returns-3 c = c .flat-refusal .ensures ∙ sym (ap flatPartner (c .before .before .partner2 .given .1))
 

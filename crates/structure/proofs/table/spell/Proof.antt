@@ -1,0 +1,66 @@
+-- `structure::table::spell` meets its contract. The loop's invariant: the brackets of the positions passed stand at the front of the
+-- memory as it came (Spelling). Assumes nothing.
+use mathlib.Core.Path.{_≡_}
+use Prim.Native.Nat.{_≤_, _-_}
+use native.Mathlib.Omega.{arith}
+use lib.ListN.{length}
+use borrow.Author.Needs.{needs}
+use Rattle.structure.proofs.Spelling.{Spelling, spelling-start, spelling-step, spelling-end}
+use Rattle.structure.proofs.table.spell.Statement.{statement}
+use Rattle.structure.proofs.table.spell.Tie as tie
+
+abbrev Inv-loop : tie.InvT-loop
+Inv-loop table text₀ i₀ text i = (i ≤ length table) × Spelling table text₀ text i
+
+abbrev μ-loop : tie.MeasureT-loop
+μ-loop table text₀ i₀ text i = length table - i
+
+loop-holds : tie.Need-loop-holds Inv-loop μ-loop
+loop-holds c = (omega arith, spelling-start _ _)
+
+mul-bracket : tie.Need-mul-bracket Inv-loop μ-loop
+mul-bracket c = search needs
+
+shared-slice-read-bracket : tie.Need-shared-slice-read-bracket Inv-loop μ-loop
+shared-slice-read-bracket c = search needs
+
+bracket-requires : tie.Need-bracket-requires Inv-loop μ-loop
+bracket-requires c κs = search needs
+
+slice-write-text : tie.Need-slice-write-text Inv-loop μ-loop
+slice-write-text c = let long = c .before .before .before .loop .inv .1 .long in omega arith
+
+add-i : tie.Need-add-i Inv-loop μ-loop
+add-i c = search needs
+
+loop-less : tie.Need-loop-less Inv-loop μ-loop
+loop-less c = search needs
+
+loop-again : tie.Need-loop-again Inv-loop μ-loop
+loop-again c = (omega arith, spelling-step _ _ _ _ _ (c .before .before .before .loop .inv .1) (omega arith) (omega arith) (c .bracket .ensures))
+
+same-length : tie.Need-same-length Inv-loop μ-loop
+same-length c = c .before .loop .inv .1 .long
+
+returns : tie.Need-returns Inv-loop μ-loop
+returns c =
+    let l = c .before in
+    let e : l .loop .i ≡ length (l .before .before .before .args .table .now) = omega arith in
+    spelling-end _ _ _ (rw e at (l .loop .inv .1))
+
+pub spell-spec : {M : Type 1} → statement M
+spell-spec =
+    tie.close
+    (tie.spec
+    Inv-loop
+    μ-loop
+    loop-holds
+    mul-bracket
+    shared-slice-read-bracket
+    bracket-requires
+    slice-write-text
+    add-i
+    loop-less
+    loop-again
+    same-length
+    returns)
