@@ -29,6 +29,10 @@ pub read-none : {r : Reading} (x : ℕ) → told r ≡ reads x → r ≡ Nothing
 unfolding noBase
 read-none x h e = ap isRefused (sym h ∙ ap told e)
 
+pub read-nothing : {r : Reading} (x : ℕ) → told r ≡ reads x → r ≡ Nothing → normal x ≡ 0
+unfolding normal
+read-nothing x h e = ap letterIn (sym h ∙ ap told e)
+
 -- the base of a letter, and the answer that says so
 baseOf : ℕ → Base
 baseOf y = cond (eqb y 65) A (cond (eqb y 67) C (cond (eqb y 71) G U))
@@ -48,6 +52,11 @@ told-back Nothing = refl
 -- `read_base` has one permitted answer
 pub one-reading : {s : Spelt} (r r′ : Reading) → told r ≡ s → told r′ ≡ s → r ≡ r′
 one-reading r r′ p q = sym (told-back r) ∙ ap readingOf (p ∙ sym q) ∙ told-back r′
+
+-- 0, which stands past the end of a list, is no base
+pub normal-zero : normal 0 ≡ 0
+unfolding normal reads
+normal-zero = refl
 
 -- ---- exactly ten bytes are bases
 

@@ -3,7 +3,7 @@ pub mod Folds
 pub mod Glyphs
 pub mod Counts
 pub mod Checking
-pub mod Spelling
+pub mod Fronts
 pub mod Scan
 pub mod Stack
 pub mod Distances

@@ -6,7 +6,7 @@ use native.Mathlib.Omega.{arith}
 use lib.ListN.{length}
 use borrow.Author.Needs.{needs}
 use Rattle.structure.specs.Table.{view}
-use Rattle.structure.proofs.Spelling.{Listing, listing-start, listing-room, listing-step, listing-end}
+use Rattle.structure.proofs.Fronts.{Listing, listing-start, listing-room, listing-step, listing-end}
 use Rattle.structure.proofs.table.list.Statement.{statement}
 use Rattle.structure.proofs.table.list.Tie as tie
 

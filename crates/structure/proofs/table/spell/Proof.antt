@@ -1,22 +1,24 @@
 -- `structure::table::spell` meets its contract. The loop's invariant: the brackets of the positions passed stand at the front of the
--- memory as it came (Spelling). Assumes nothing.
-use mathlib.Core.Path.{_≡_}
+-- memory as it came (Front). Assumes nothing.
+use mathlib.Core.Path.{_≡_, sym, _∙_}
 use Prim.Native.Nat.{_≤_, _-_}
 use native.Mathlib.Omega.{arith}
 use lib.ListN.{length}
 use borrow.Author.Needs.{needs}
-use Rattle.structure.proofs.Spelling.{Spelling, spelling-start, spelling-step, spelling-end}
+use Rattle.structure.specs.Table.{brackets}
+use Rattle.structure.proofs.Glyphs.{brackets-at, brackets-long}
+use Rattle.structure.proofs.Fronts.{Front, front-start, front-step, front-end}
 use Rattle.structure.proofs.table.spell.Statement.{statement}
 use Rattle.structure.proofs.table.spell.Tie as tie
 
 abbrev Inv-loop : tie.InvT-loop
-Inv-loop table text₀ i₀ text i = (i ≤ length table) × Spelling table text₀ text i
+Inv-loop table text₀ i₀ text i = (i ≤ length table) × Front (brackets table) text₀ text i
 
 abbrev μ-loop : tie.MeasureT-loop
 μ-loop table text₀ i₀ text i = length table - i
 
 loop-holds : tie.Need-loop-holds Inv-loop μ-loop
-loop-holds c = (omega arith, spelling-start _ _)
+loop-holds c = (omega arith, front-start _ _)
 
 mul-bracket : tie.Need-mul-bracket Inv-loop μ-loop
 mul-bracket c = search needs
@@ -37,7 +39,11 @@ loop-less : tie.Need-loop-less Inv-loop μ-loop
 loop-less c = search needs
 
 loop-again : tie.Need-loop-again Inv-loop μ-loop
-loop-again c = (omega arith, spelling-step _ _ _ _ _ (c .before .before .before .loop .inv .1) (omega arith) (omega arith) (c .bracket .ensures))
+loop-again c =
+    let l = c .before .before .before in
+    let t = l .before .before .before .args .table .now in
+    let long = brackets-long t in
+    (omega arith, front-step _ _ _ _ _ (l .loop .inv .1) (omega arith) (omega arith) (c .bracket .ensures ∙ sym (brackets-at t (l .loop .i) (omega arith))))
 
 same-length : tie.Need-same-length Inv-loop μ-loop
 same-length c = c .before .loop .inv .1 .long
@@ -45,8 +51,10 @@ same-length c = c .before .loop .inv .1 .long
 returns : tie.Need-returns Inv-loop μ-loop
 returns c =
     let l = c .before in
-    let e : l .loop .i ≡ length (l .before .before .before .args .table .now) = omega arith in
-    spelling-end _ _ _ (rw e at (l .loop .inv .1))
+    let t = l .before .before .before .args .table .now in
+    let long = brackets-long t in
+    let e : l .loop .i ≡ length (brackets t) = omega arith in
+    rw (← long) (front-end _ _ _ (rw e at (l .loop .inv .1)))
 
 pub spell-spec : {M : Type 1} → statement M
 spell-spec =

@@ -6,13 +6,12 @@ use Prim.Native.Nat.{ℕ, zero, suc, _+_, _*_, _<_, _≤_}
 use native.Mathlib.Omega.{arith}
 use native.Mathlib.Numerals.{add-one}
 use native.Mathlib.Decide.{ℕ-discrete}
-use lib.ListN.{length, drop, take, set, length-append, length-drop, length-set}
+use lib.ListN.{length, getD, drop, take, set, length-append, length-drop, length-set}
 use lib.Seq.{sets, sets-eq, length-sets, take-at, drop-append-add, drop-drop, take-suc, length-take-le, take-all}
 use borrow.Author.Tests.{eq-eqb, ne-eqb}
-use Rattle.structure.specs.Table.{view, glyph, brackets, opens, opened}
+use Rattle.structure.specs.Table.{opens, opened}
 use Rattle.structure.specs.Calls.{listed}
 use Rattle.structure.specs.Walking.{listedAt}
-use Rattle.structure.proofs.Glyphs.{brackets-at, brackets-long}
 use Rattle.structure.proofs.Counts.{opens-le}
 
 -- ---- a front w of n numbers over the memory o
@@ -28,25 +27,24 @@ front-more w xs o n e h =
     let long = front-long w o n e (omega arith) in
     sets-eq xs (w ++ drop n o) n (omega arith) ∙ rw (take-at w (drop n o) n e, front-drop w o n (length xs) e)
 
--- ---- the memory o₀ after the brackets before position i are written
-pub record Spelling (t o₀ o : List ℕ) (i : ℕ) : Type 0 where
+-- ---- the memory o₀ after the first i numbers of w are written to its front
+pub record Front (w o₀ o : List ℕ) (i : ℕ) : Type 0 where
   pub long : length o ≡ length o₀
-  pub memory : o ≡ take i (brackets t) ++ drop i o₀
+  pub memory : o ≡ take i w ++ drop i o₀
 
-pub spelling-start : (t o : List ℕ) → Spelling t o o 0
-spelling-start t o = record { long = refl; memory = refl }
+pub front-start : (w o : List ℕ) → Front w o o 0
+front-start w o = record { long = refl; memory = refl }
 
-pub spelling-step : (t o₀ o : List ℕ) (i v : ℕ) → Spelling t o₀ o i → i < length t → length t ≤ length o₀ → v ≡ glyph i (view t i) → Spelling t o₀ (set o i v) (i + 1)
-spelling-step t o₀ o i v s h r e =
-    let b = brackets-long t in
-    let more = front-more (take i (brackets t)) (v ∷ []) o₀ i (length-take-le i (brackets t) (omega arith)) (omega arith) in
+pub front-step : (w o₀ o : List ℕ) (i v : ℕ) → Front w o₀ o i → i < length w → length w ≤ length o₀ → v ≡ getD w i 0 → Front w o₀ (set o i v) (i + 1)
+front-step w o₀ o i v s h r e =
+    let more = front-more (take i w) (v ∷ []) o₀ i (length-take-le i w (omega arith)) (omega arith) in
     record {
       long = length-set o i v ∙ s .long;
-      memory = rw (s .memory, add-one i, take-suc (brackets t) i 0 (omega arith), brackets-at t i h, ← e) (rw (add-one i) at more);
+      memory = rw (s .memory, add-one i, take-suc w i 0 h, ← e) (rw (add-one i) at more);
     }
 
-pub spelling-end : (t o₀ o : List ℕ) → Spelling t o₀ o (length t) → o ≡ brackets t ++ drop (length t) o₀
-spelling-end t o₀ o s = let b = brackets-long t in s .memory ∙ rw (take-all (length t) (brackets t) (omega arith))
+pub front-end : (w o₀ o : List ℕ) → Front w o₀ o (length w) → o ≡ w ++ drop (length w) o₀
+front-end w o₀ o s = s .memory ∙ rw (take-all (length w) w (omega arith))
 
 -- ---- the memory o₀ after the pairs that open before position i are written, n numbers
 pub record Listing (p : ℕ → ℕ) (o₀ o : List ℕ) (n i : ℕ) : Type 0 where

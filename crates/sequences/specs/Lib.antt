@@ -1,0 +1,2 @@
+-- What the contracts of every fold cite of its sequence.
+pub mod Sequences
