@@ -114,5 +114,5 @@ module _ (c : Cells ℕ) (p : ℕ → ℕ → Bool) (i j : ℕ) where
 pub why-split : {c : Cells ℕ} {p : ℕ → ℕ → Bool} {i j k : ℕ} → Why c p i j (Split k) → (i < k) × (k < j)
 why-split (split k h l q) = (h, l)
 
-pub split-inside : (c : Cells ℕ) (p : ℕ → ℕ → Bool) (i j : ℕ) {k : ℕ} → choice c p i j ≡ Split k → (i < k) × (k < j)
-split-inside c p i j e = why-split (subst (λ (x : Choice). Why c p i j x) e (why c p i j))
+pub split-inside : (c : Cells ℕ) (p : ℕ → ℕ → Bool) (i j : ℕ) {ch : Choice} {k : ℕ} → ch ≡ choice c p i j → ch ≡ Split k → (i < k) × (k < j)
+split-inside c p i j e q = why-split (subst (λ (x : Choice). Why c p i j x) (sym e ∙ q) (why c p i j))

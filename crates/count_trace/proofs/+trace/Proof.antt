@@ -1,6 +1,6 @@
 -- `count_trace::trace`, which calls itself, meets its contract: each arm is the step of the traceback that its choice names.
 -- The measure is the length of the span, hi − lo. Assumes nothing.
-use mathlib.Core.Path.{_≡_, refl, sym, _∙_}
+use mathlib.Core.Path.{_≡_, refl}
 use Prim.Native.Nat.{ℕ, _+_, _-_, _<_}
 use native.Mathlib.Omega.{arith}
 use borrow.Author.Needs.{needs}
@@ -65,7 +65,7 @@ module _ (t : ℕ) where
       let r = c .before .before in
       let e = r .before .before in
       let h = e .before .before in
-      traced-first _ _ _ _ _ (h .before .if1 .left) _ (sym (h .choose .ensures) ∙ e .enum-told .given .1) (r .trace .ensures)
+      traced-first _ _ _ _ _ (h .before .if1 .left) _ (h .choose .ensures) _ (e .enum-told .given .1) (r .trace .ensures)
 
   -- ---- the first with the last
   enum-told-2 : trace-lts.Need-enum-told-2 (gets t) (trace-at t) trace.Post
@@ -92,14 +92,14 @@ module _ (t : ℕ) where
       let d = r .before .before .before .before in
       let e = d .before .before in
       let h = e .before .before in
-      traced-both _ _ _ _ _ (h .before .if1 .left) _ _ (sym (h .choose .ensures) ∙ e .enum-told2 .given .1) (d .join .ensures) (r .trace2 .ensures)
+      traced-both _ _ _ _ _ (h .before .if1 .left) _ (h .choose .ensures) _ _ (e .enum-told2 .given .1) (d .join .ensures) (r .trace2 .ensures)
 
   -- ---- a split, which lies inside the span
   inside :
       (c : trace-lts.After-k (gets t) (trace-at t) trace.Post) →
       let s = c .before .before .before .before .before .before .before .args in
       (s .lo < c .k .given .0 .0) × (c .k .given .0 .0 < s .hi - 1)
-  inside c = split-inside _ _ _ _ (sym (c .before .before .choose .ensures) ∙ c .k .given .1)
+  inside c = split-inside _ _ _ _ (c .before .before .choose .ensures) (c .k .given .1)
 
   enum-known-k : trace-lts.Need-enum-known-k (gets t) (trace-at t) trace.Post
   enum-known-k c = search needs
@@ -135,7 +135,7 @@ module _ (t : ℕ) where
       let r₁ = r₂ .before .before .before .before in
       let k = r₁ .before .before .before in
       let h = k .before .before in
-      traced-split _ _ _ _ _ (h .before .if1 .left) _ _ _ (sym (h .choose .ensures) ∙ k .k .given .1) (r₁ .trace3 .ensures) (r₂ .trace4 .ensures)
+      traced-split _ _ _ _ _ (h .before .if1 .left) _ (h .choose .ensures) _ _ _ (k .k .given .1) (r₁ .trace3 .ensures) (r₂ .trace4 .ensures)
 
   -- ---- the last position unpaired
   enum-told-3 : trace-lts.Need-enum-told-3 (gets t) (trace-at t) trace.Post
@@ -154,7 +154,7 @@ module _ (t : ℕ) where
       let r = c .before .before in
       let e = r .before .before in
       let h = e .before .before in
-      traced-last _ _ _ _ _ (h .before .if1 .left) _ (sym (h .choose .ensures) ∙ e .enum-told3 .given .1) (r .trace5 .ensures)
+      traced-last _ _ _ _ _ (h .before .if1 .left) _ (h .choose .ensures) _ (e .enum-told3 .given .1) (r .trace5 .ensures)
 
 pub +trace-spec : {M : Type 1} → statement M
 +trace-spec = close μ-trace λ t. trace-lts.spec (gets t)

@@ -34,10 +34,11 @@ loop-less c = omega arith
 
 loop-again : tie.Need-loop-again Inv-loop μ-loop
 loop-again c =
-    let l = c .before .loop in
-    ( omega arith,
+    let l = c .before .loop in (
+      omega arith,
       simp length-set (omega arith),
-      ap (λ (o : List ℕ). set o (l .k) unpaired) (l .inv .2) ∙ fill-more (l .k) _ (c .before .before .args .pairs .now) (omega arith) )
+      ap (λ (o : List ℕ). set o (l .k) unpaired) (l .inv .2) ∙ fill-more (l .k) _ (c .before .before .args .pairs .now) (omega arith),
+    )
 
 same-length : tie.Need-same-length Inv-loop μ-loop
 same-length c = search needs

@@ -32,12 +32,13 @@ returns-2 : tie.Need-returns-2
 unfolding choice
 returns-2 c =
     let f = c .before .before in
-    simp
-    ( ← f .before .before .cell .ensures .0,
+    simp (
+      ← f .before .before .cell .ensures .0,
       ← f .before .cell2 .ensures .0,
       ne-eqb _ _ (f .if1 .left),
       ← c .before .closes .ensures,
-      c .if2 .taken )
+      c .if2 .taken,
+    )
 
 split-requires : tie.Need-split-requires
 split-requires c κs = search needs
@@ -53,28 +54,30 @@ unfolding choice
 returns-3 c =
     let e = c .before .before .before .before in
     let f = e .before .before in
-    simp
-    ( ← f .before .before .cell .ensures .0,
+    simp (
+      ← f .before .before .cell .ensures .0,
       ← f .before .cell2 .ensures .0,
       ne-eqb _ _ (f .if1 .left),
       ← e .before .closes .ensures,
       e .if2 .left,
       ← c .before .before .before .split .ensures,
-      c .before .k .given .1 )
+      c .before .k .given .1,
+    )
 
 returns-4 : tie.Need-returns-4
 unfolding choice
 returns-4 c =
     let e = c .before .before .before in
     let f = e .before .before in
-    simp
-    ( ← f .before .before .cell .ensures .0,
+    simp (
+      ← f .before .before .cell .ensures .0,
       ← f .before .cell2 .ensures .0,
       ne-eqb _ _ (f .if1 .left),
       ← e .before .closes .ensures,
       e .if2 .left,
       ← c .before .before .split .ensures,
-      c .enum-told .given .1 )
+      c .enum-told .given .1,
+    )
 
 pub choose-spec : {M : Type 1} → statement M
 choose-spec =

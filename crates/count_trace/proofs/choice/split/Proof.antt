@@ -62,12 +62,13 @@ loop-less c = omega arith
 loop-again : tie.Need-loop-again Inv-loop μ-loop
 unfolding splitAt
 loop-again c =
-    let l = c .before .before .before in
-    ( omega arith,
+    let l = c .before .before .before in (
+      omega arith,
       omega arith,
       l .before .loop .inv .2
-      ∙ first-next _ _ _ (l .loop-test .taken)
-      (simp (← c .before .cell2 .ensures .0, ← c .before .before .cell .ensures .0) (ne-eqb _ _ (c .if1 .left))) )
+          ∙ first-next _ _ _ (l .loop-test .taken)
+          (simp (← c .before .cell2 .ensures .0, ← c .before .before .cell .ensures .0) (ne-eqb _ _ (c .if1 .left))),
+    )
 
 returns-2 : tie.Need-returns-2 Inv-loop μ-loop
 returns-2 c = sym (c .before .loop .inv .2 ∙ first-end _ _ _ (c .loop-test .left))
