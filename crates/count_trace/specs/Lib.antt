@@ -1,0 +1,3 @@
+-- What the contracts of the traceback cite.
+pub mod Choosing
+pub mod Trace
