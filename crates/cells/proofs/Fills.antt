@@ -1,7 +1,7 @@
 -- The steps of filling a triangle by a local rule, column after column, each from its last row up to row 0.
 -- Assumes nothing.
-use mathlib.Core.Path.{_≡_, refl, ap, _∙_, sym, subst}
-use mathlib.Core.Logic.{_⊎_, inl, inr, ⊎-elim}
+use mathlib.Core.Path.{_≡_, refl, _∙_, sym, subst}
+use mathlib.Core.Logic.{_⊎_, ⊎-elim}
 use mathlib.Core.List.{List}
 use Prim.Native.Nat.{ℕ, zero, suc, _+_, _-_, _≤_, _<_, min}
 use native.Mathlib.Omega.{arith}
@@ -10,7 +10,7 @@ use lib.Seq.{getD-set-same, getD-set-other}
 use Rattle.cells.specs.Tri.{tri, place}
 use Rattle.cells.specs.Rule.{Bases, Cells, Rule, SameInside, Local, Right}
 use Rattle.cells.specs.Fill.{at, trio, FineInside, FineFrom, Fine, Keeps, Rows, Columns, FineElse}
-use Rattle.cells.proofs.Places.{less-or, three, tri-below, place-below, place-column, place-row, CellAt, cell-at}
+use Rattle.cells.proofs.Places.{less-or, three, tri-below, place-column, place-row, cell-at}
 use Rattle.cells.proofs.Rules.{untouched, replaced, added}
 
 -- g′ is g but for what stands at the place p, which is v

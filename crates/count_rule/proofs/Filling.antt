@@ -11,7 +11,7 @@ use Rattle.structure.proofs.Folds.{empty, one, join, wrap, moved}
 use Rattle.structure.proofs.Counts.{opens-none, opens-low, opens-high, opened-moved, opened-step}
 use Rattle.count_rule.specs.Allowed.{Allowed}
 use Rattle.count_rule.specs.Counts.{Filled}
-use Rattle.count_rule.proofs.Ruling.{span-none}
+use Rattle.cells.proofs.Spans.{span-none}
 
 -- one position more, counted
 next : (p : ℕ → ℕ) (i : ℕ) → opened p (i + 1) ≡ opened p i + opens i (p i)

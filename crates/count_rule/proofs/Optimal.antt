@@ -15,7 +15,8 @@ use Rattle.structure.proofs.Counts.{opens-none, opens-low, opens-high}
 use Rattle.count_rule.specs.Rule.{nussinov}
 use Rattle.count_rule.specs.Allowed.{Allowed, May}
 use Rattle.count_rule.specs.Counts.{Ruled}
-use Rattle.count_rule.proofs.Ruling.{span-some, span-none, right-ruled}
+use Rattle.cells.proofs.Spans.{span-some, span-none}
+use Rattle.count_rule.proofs.Ruling.{right-ruled}
 
 module _ (can : ℕ → ℕ → Type 0) (n : ℕ) (c : Cells ℕ) (w : Ruled can n c) where
   span-left : (lo hi : ℕ) → lo < hi → hi ≤ n → span c (suc lo) hi ≤ span c lo hi

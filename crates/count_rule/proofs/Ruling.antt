@@ -5,21 +5,11 @@ use mathlib.Core.Bool.{Bool, true, false, cond}
 use Prim.Native.Nat.{ℕ, zero, suc, _+_, _-_, _<_, _≤_, max}
 use native.Mathlib.Omega.{arith}
 use native.Mathlib.Decide.{decLt, ℕ-discrete}
-use borrow.Author.Tests.{lt-ltb, le-ltb}
 use Rattle.cells.specs.Rule.{Bases, Cells, Right, span}
 use Rattle.count_rule.specs.Rule.{mayPair, best, paired, split, nussinov}
 use Rattle.count_rule.specs.Allowed.{May}
 use Rattle.count_rule.specs.Counts.{Step, Ruled}
-
--- ---- the span of a cell
-module _ (c : Cells ℕ) (lo hi : ℕ) where
-  pub span-some : lo < hi → span c lo hi ≡ c lo (hi - 1)
-  unfolding span
-  span-some h = rw (lt-ltb lo hi h)
-
-  pub span-none : hi ≤ lo → span c lo hi ≡ 0
-  unfolding span
-  span-none h = rw (le-ltb lo hi h)
+use Rattle.count_rule.proofs.Laws.{paired-some, nussinov-one, nussinov-more}
 
 -- ---- the largest of a run
 module _ (f : ℕ → ℕ) (lo : ℕ) where
@@ -47,53 +37,40 @@ module _ (f : ℕ → ℕ) (lo : ℕ) where
       (λ n. omega (arith, best-above m k l (omega arith)))
 
 -- ---- the rule at one cell
-module _ (gap : ℕ) (b : Bases) (c : Cells ℕ) (i : ℕ) where
-  alone-is : nussinov gap b c i i ≡ 0
-  unfolding nussinov
-  alone-is = rw (le-ltb i i (omega arith))
+module _ (gap : ℕ) (b : Bases) (c : Cells ℕ) (i j : ℕ) (h : i < j) where
+  split-above : (k : ℕ) → i < k → k < j → c i k + c (k + 1) j ≤ split c i j
+  unfolding split
+  split-above k l r = best-above (λ x. c i x + c (x + 1) j) (i + 1) (j - (i + 1)) k (omega arith) (omega arith)
 
-  module _ (j : ℕ) (h : i < j) where
-    larger-is : nussinov gap b c i j ≡ max (max (max (c (i + 1) j) (c i (j - 1))) (paired gap b c i j)) (split c i j)
-    unfolding nussinov
-    larger-is = rw (lt-ltb i j h)
+  -- the pair reaches the cell, or the cell is 0, as (i + 1, j) is then
+  paired-step : c i j ≡ paired gap b c i j → c (i + 1) j ≤ c i j → Step (May b gap) c i j
+  unfolding paired
+  paired-step q l = go (mayPair b gap i j) refl q
+    where
+      go : (y : Bool) → mayPair b gap i j ≡ y → c i j ≡ cond y (span c (i + 1) j + 1) 0 → Step (May b gap) c i j
+      go true y v = Step.both y v
+      go false y v = Step.first (omega arith)
 
-    paired-is : May b gap i j → paired gap b c i j ≡ span c (i + 1) j + 1
-    unfolding paired
-    paired-is y = rw y
-
-    split-above : (k : ℕ) → i < k → k < j → c i k + c (k + 1) j ≤ split c i j
-    unfolding split
-    split-above k l r = best-above (λ x. c i x + c (x + 1) j) (i + 1) (j - (i + 1)) k (omega arith) (omega arith)
-
-    -- the pair reaches the cell, or the cell is 0, as (i + 1, j) is then
-    paired-step : c i j ≡ paired gap b c i j → c (i + 1) j ≤ c i j → Step (May b gap) c i j
-    unfolding paired
-    paired-step q l = go (mayPair b gap i j) refl q
-      where
-        go : (y : Bool) → mayPair b gap i j ≡ y → c i j ≡ cond y (span c (i + 1) j + 1) 0 → Step (May b gap) c i j
-        go true y v = Step.both y v
-        go false y v = Step.first (omega arith)
-
-    -- and so for the best split
-    split-step : c i j ≡ split c i j → c (i + 1) j ≤ c i j → Step (May b gap) c i j
-    unfolding split
-    split-step q l = go (largest (λ x. c i x + c (x + 1) j) (i + 1) (j - (i + 1))) q
-      where
-        go : {v : ℕ} → Largest (λ x. c i x + c (x + 1) j) (i + 1) (j - (i + 1)) v → c i j ≡ v → Step (May b gap) c i j
-        go (none e) v = Step.first (omega arith)
-        go (one k x y e) v = Step.split k (omega arith) (omega arith) (v ∙ e)
+  -- and so for the best split
+  split-step : c i j ≡ split c i j → c (i + 1) j ≤ c i j → Step (May b gap) c i j
+  unfolding split
+  split-step q l = go (largest (λ x. c i x + c (x + 1) j) (i + 1) (j - (i + 1))) q
+    where
+      go : {v : ℕ} → Largest (λ x. c i x + c (x + 1) j) (i + 1) (j - (i + 1)) v → c i j ≡ v → Step (May b gap) c i j
+      go (none e) v = Step.first (omega arith)
+      go (one k x y e) v = Step.split k (omega arith) (omega arith) (v ∙ e)
 
 -- ---- a right table
 module _ (gap n : ℕ) (b : Bases) (c : Cells ℕ) (r : Right (nussinov gap) b c n) where
   larger : (i j : ℕ) → i < j → j < n → c i j ≡ max (max (max (c (i + 1) j) (c i (j - 1))) (paired gap b c i j)) (split c i j)
-  larger i j h l = r i j (omega arith) l ∙ larger-is gap b c i j h
+  larger i j h l = r i j (omega arith) l ∙ nussinov-more gap b c i j h
 
   pub right-ruled : Ruled (May b gap) n c
   right-ruled = record {
-    alone = λ i h. r i i (omega arith) h ∙ alone-is gap b c i;
+    alone = λ i h. r i i (omega arith) h ∙ nussinov-one gap b c i i refl;
     left = λ i j h l. omega (arith, larger i j h l);
     right = λ i j h l. omega (arith, larger i j h l);
-    pair = λ i j h l y. omega (arith, larger i j h l, paired-is gap b c i j h y);
+    pair = λ i j h l y. omega (arith, larger i j h l, paired-some gap b c i j y);
     cut = λ i k j h l m. omega (arith, larger i j (omega arith) m, split-above gap b c i j (omega arith) k h l);
     reached = λ i j h l.
         let e = larger i j h l in

@@ -17,7 +17,8 @@ use Rattle.structure.specs.Table.{unpaired, view, opened}
 use Rattle.count_rule.specs.Rule.{mayPair, nussinov}
 use Rattle.count_rule.specs.Allowed.{Allowed, May}
 use Rattle.count_rule.specs.Counts.{Step, Ruled, Blank, Filled}
-use Rattle.count_rule.proofs.Ruling.{span-some, right-ruled}
+use Rattle.cells.proofs.Spans.{span-some}
+use Rattle.count_rule.proofs.Ruling.{right-ruled}
 use Rattle.count_rule.proofs.Filling.{filled-none, filled-one, filled-first, filled-both, filled-split, filled-moved}
 use Rattle.count_trace.specs.Choosing.{choice}
 use Rattle.count_trace.specs.Trace.{step, traceOf, cleared, tracedOf}

@@ -16,7 +16,7 @@ use Rattle.cells.specs.Fill.{at}
 use Rattle.cells.proofs.Places.{three}
 use Rattle.structure.specs.Table.{view}
 use Rattle.count_rule.specs.Rule.{mayPair}
-use Rattle.count_rule.proofs.Ruling.{span-some, span-none}
+use Rattle.cells.proofs.Spans.{span-some, span-none}
 use Rattle.count_trace.specs.Choosing.{firstOf, closesOf, splitAt, splitOf, orLast, choice}
 use Rattle.count_trace.specs.Trace.{step, traceOf, cleared, tracedOf}
 use Rattle.count_trace.specs.declared.choice.Choice.{Choice}

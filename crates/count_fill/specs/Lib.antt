@@ -1,0 +1,4 @@
+-- What the contracts of filling cite.
+pub mod Filled
+pub mod Believable
+pub mod Passes
