@@ -1,6 +1,4 @@
 -- `count_fill::column::rows` meets its contract: a column that is started and then settled obeys the rule. Assumes nothing.
-use mathlib.Core.Path.{_≡_}
-use Prim.Native.Nat.{_+_}
 use denote.Ref.{now}
 use native.Mathlib.Omega.{arith}
 use borrow.Author.Needs.{needs}

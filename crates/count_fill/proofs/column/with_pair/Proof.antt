@@ -1,6 +1,5 @@
 -- `count_fill::column::with_pair` meets its contract: each way is a law of `paired`, with that of the span inside. Assumes nothing.
-use mathlib.Core.Path.{_≡_, ap, _∙_, sym}
-use mathlib.Core.Bool.{true}
+use mathlib.Core.Path.{ap, _∙_, sym}
 use Prim.Native.Nat.{_+_, _-_}
 use borrow.Author.Needs.{needs}
 use borrow.Author.Tests.{not-true, not-false}
