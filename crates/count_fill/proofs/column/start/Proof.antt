@@ -51,7 +51,6 @@ loop-less c = omega arith
 
 loop-again : tie.Need-loop-again Inv-loop μ-loop
 loop-again c =
-    let s = c .before .before .before .before .before in
     let l = c .before .before .before .loop in (
       omega arith,
       simp length-set (l .inv .1),
