@@ -15,10 +15,10 @@ use Rattle.count_fill.proofs.believable.Statement.{statement}
 use Rattle.count_fill.proofs.believable.Tie as tie
 
 abbrev Inv-loop : tie.InvT-loop
-Inv-loop t n j₀ j = (j ≤ n) × (every (columnHalf (at (view t))) j ≡ true)
+Inv-loop cells n j₀ j = (j ≤ n) × (every (columnHalf (at (view cells))) j ≡ true)
 
 abbrev μ-loop : tie.MeasureT-loop
-μ-loop t n j₀ j = n - j
+μ-loop cells n j₀ j = n - j
 
 loop-holds : tie.Need-loop-holds Inv-loop μ-loop
 unfolding every

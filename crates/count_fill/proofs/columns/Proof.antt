@@ -13,11 +13,11 @@ use Rattle.count_fill.proofs.columns.Statement.{statement}
 use Rattle.count_fill.proofs.columns.Tie as tie
 
 abbrev Inv-loop : tie.InvT-loop
-Inv-loop b t₀ first top n gap j₀ t j =
-    (first ≤ j) × (j ≤ n) × (length t ≡ length t₀) × Columns (nussinov gap) Half (view b) (view t₀) (view t) first top j
+Inv-loop bases cells₀ first top n gap j₀ cells j =
+    (first ≤ j) × (j ≤ n) × (length cells ≡ length cells₀) × Columns (nussinov gap) Half (view bases) (view cells₀) (view cells) first top j
 
 abbrev μ-loop : tie.MeasureT-loop
-μ-loop b t₀ first top n gap j₀ t j = n - j
+μ-loop bases cells₀ first top n gap j₀ cells j = n - j
 
 loop-holds : tie.Need-loop-holds Inv-loop μ-loop
 loop-holds c = (omega arith, omega arith, omega arith, columns-none (nussinov _) (nussinov-local _) _ (nussinov-keeps _) _ _ _ _ _ (omega arith) (c .before .before .pre .4))

@@ -13,10 +13,10 @@ use Rattle.count_fill.proofs.column.column_half.Statement.{statement}
 use Rattle.count_fill.proofs.column.column_half.Tie as tie
 
 abbrev Inv-loop : tie.InvT-loop
-Inv-loop t j i₀ i = (i ≤ j + 1) × (every (halfAt (at (view t)) j) i ≡ true)
+Inv-loop cells j i₀ i = (i ≤ j + 1) × (every (halfAt (at (view cells)) j) i ≡ true)
 
 abbrev μ-loop : tie.MeasureT-loop
-μ-loop t j i₀ i = j + 1 - i
+μ-loop cells j i₀ i = j + 1 - i
 
 loop-holds : tie.Need-loop-holds Inv-loop μ-loop
 unfolding every

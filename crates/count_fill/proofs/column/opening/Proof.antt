@@ -1,4 +1,4 @@
--- `count_fill::column::opening` meets its contract. Assumes nothing.
+-- `count_fill::column::opening` meets its contract: each return is a law of `begun`. Assumes nothing.
 use mathlib.Core.Path.{_∙_, sym, ap₂}
 use Prim.Native.Nat.{_+_, _-_, max}
 use native.Mathlib.Omega.{arith}

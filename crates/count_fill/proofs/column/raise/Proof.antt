@@ -11,10 +11,10 @@ use Rattle.count_fill.proofs.column.raise.Statement.{statement}
 use Rattle.count_fill.proofs.column.raise.Tie as tie
 
 abbrev Inv-loop : tie.InvT-loop
-Inv-loop t₀ col to rows v i₀ t i = (i ≤ rows) × (length t ≡ length t₀) × Raised max (λ x. x + v) (view t₀) (view t) col to i
+Inv-loop cells₀ col to rows v i₀ cells i = (i ≤ rows) × (length cells ≡ length cells₀) × Raised max (λ x. x + v) (view cells₀) (view cells) col to i
 
 abbrev μ-loop : tie.MeasureT-loop
-μ-loop t₀ col to rows v i₀ t i = rows - i
+μ-loop cells₀ col to rows v i₀ cells i = rows - i
 
 loop-holds : tie.Need-loop-holds Inv-loop μ-loop
 loop-holds c = (omega arith, omega arith, raised-none max _ _ _ _)

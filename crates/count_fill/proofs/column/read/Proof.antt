@@ -1,4 +1,4 @@
--- `count_fill::column::read` meets its contract. Assumes nothing.
+-- `count_fill::column::read` meets its contract: the cell stands at its place. Assumes nothing.
 use borrow.Author.Needs.{needs}
 use Rattle.count_fill.proofs.column.read.Statement.{statement}
 use Rattle.count_fill.proofs.column.read.Tie as tie

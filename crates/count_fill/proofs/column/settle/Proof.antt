@@ -16,10 +16,10 @@ use Rattle.count_fill.proofs.column.settle.Statement.{statement}
 use Rattle.count_fill.proofs.column.settle.Tie as tie
 
 abbrev Inv-loop : tie.InvT-loop
-Inv-loop t₀ j to from r₀ col₀ t r col = (r ≤ j) × (col ≡ tri r) × (length t ≡ length t₀) × Settled max both AnyHalf (view t₀) (view t) j from r
+Inv-loop cells₀ j to from r₀ col₀ cells r col = (r ≤ j) × (col ≡ tri r) × (length cells ≡ length cells₀) × Settled max both AnyHalf (view cells₀) (view cells) j from r
 
 abbrev μ-loop : tie.MeasureT-loop
-μ-loop t₀ j to from r₀ col₀ t r col = r
+μ-loop cells₀ j to from r₀ col₀ cells r col = r
 
 loop-holds : tie.Need-loop-holds Inv-loop μ-loop
 loop-holds c = (omega arith, omega arith, omega arith, settled-none max both AnyHalf half-step _ _ _ (c .before .pre .4) (omega arith))

@@ -12,10 +12,10 @@ use Rattle.count_fill.proofs.column.start.Statement.{statement}
 use Rattle.count_fill.proofs.column.start.Tie as tie
 
 abbrev Inv-loop : tie.InvT-loop
-Inv-loop b t₀ j to from gap i₀ t i = (i ≤ from + 1) × (length t ≡ length t₀) × Started gap (view b) (view t₀) (view t) j i
+Inv-loop bases cells₀ j to from gap i₀ cells i = (i ≤ from + 1) × (length cells ≡ length cells₀) × Started gap (view bases) (view cells₀) (view cells) j i
 
 abbrev μ-loop : tie.MeasureT-loop
-μ-loop b t₀ j to from gap i₀ t i = from + 1 - i
+μ-loop bases cells₀ j to from gap i₀ cells i = from + 1 - i
 
 loop-holds : tie.Need-loop-holds Inv-loop μ-loop
 loop-holds c = (omega arith, omega arith, started-none _ _ _ _)
@@ -51,7 +51,6 @@ loop-less c = omega arith
 
 loop-again : tie.Need-loop-again Inv-loop μ-loop
 loop-again c =
-    let s = c .before .before .before .before .before in
     let l = c .before .before .before .loop in (
       omega arith,
       simp length-set (l .inv .1),
