@@ -18,6 +18,11 @@ or-right : (p q : Bool) → ¬ (p ≡ true) → (p || q) ≡ true → q ≡ true
 or-right true q n e = absurd (n refl)
 or-right false q n e = e
 
+-- a test made of two finds nothing where neither does
+pub neither : (p q : Bool) → (p || q) ≡ false → (p ≡ false) × (q ≡ false)
+neither true q e = absurd (true≢false e)
+neither false q e = (refl, e)
+
 not-true-false : (p : Bool) → ¬ (p ≡ true) → p ≡ false
 not-true-false true n = absurd (n refl)
 not-true-false false n = refl

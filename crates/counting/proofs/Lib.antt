@@ -1,0 +1,4 @@
+-- The theorems of the public pair-count calls.
+pub mod Accepted
+pub mod MostPairs
+pub mod OneAnswer
