@@ -146,6 +146,22 @@ int main(void) {
             tell(ykm_mountain_distance(a.at, a.count, b.at, b.count));
             break;
         }
+        case 12: {
+            buffer seq = lend(0, 1);
+            size_t gap = number();
+            buffer bases = lend(1, 1), cells = lend(2, 2), pairs = lend(3, 2);
+            ykm_counted counted = ykm_nussinov(seq.at, seq.count, gap, bases.at, bases.count,
+                                               cells.at, cells.count, pairs.at, pairs.count);
+            say(counted.number);
+            say(counted.place);
+            say(counted.record.length);
+            say(counted.record.gap);
+            say(counted.count);
+            back(bases);
+            back(cells);
+            back(pairs);
+            break;
+        }
         default: _exit(4);
     }
 }
