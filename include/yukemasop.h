@@ -112,6 +112,43 @@ ykm_answer ykm_base_pair_distance(const uint16_t *a, size_t a_length, const uint
  */
 ykm_answer ykm_mountain_distance(const uint16_t *a, size_t a_length, const uint16_t *b, size_t b_length);
 
+/*
+ * Folds. A sequence to fold has 1 to 256 bases. A fold table is a triangle: the cell of the span from
+ * i to j, both included, stands at j(j+1)/2 + i, and n bases use n(n+1)/2 cells. As above, nothing is
+ * written before the whole input is judged, and what a buffer has beyond the need is never changed.
+ *
+ * An edit record: what a fold leaves to edits.
+ */
+typedef struct {
+    size_t length;
+    size_t gap;
+} ykm_record;
+
+/* The record and the greatest number of pairs, or the refusal. All three numbers are 0 in a refusal. */
+typedef struct {
+    uint32_t number;
+    size_t place;
+    ykm_record record;
+    size_t count;
+} ykm_counted;
+
+/*
+ * The greatest number of pairs that don't cross, each one of the six and with j - i greater than gap,
+ * which is any number; and a structure that has it, the ties decided as docs/RULES.md says.
+ * Of n bases it writes the kept letters to the first n bytes of bases, the greatest number of pairs
+ * of every span to the first n(n+1)/2 cells, and the structure to the first n entries of pairs.
+ * record: n and gap. What the three buffers hold before plays no part, so none needs clearing.
+ * Refusals: 3; 1 if the sequence is empty; 2 at the first byte that is no base; 4 if bases or pairs
+ * is shorter than n, or cells than n(n+1)/2.
+ *
+ *     ykm_nussinov("ggggcccc", 8, 3, bases, 8, cells, 36, pairs, 8)
+ *                                           writes GGGGCCCC to bases and .((...)) as a table to pairs:
+ *                                           65535 7 6 65535 65535 65535 2 1; count == 2
+ */
+ykm_counted ykm_nussinov(const uint8_t *seq, size_t seq_length, size_t gap,
+                         uint8_t *bases, size_t bases_length, uint16_t *cells, size_t cells_length,
+                         uint16_t *pairs, size_t pairs_length);
+
 #ifdef __cplusplus
 }
 #endif

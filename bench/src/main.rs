@@ -1,5 +1,6 @@
 //! Times calls of the library and of the original on the same inputs. `bench/run` builds and runs it.
 
+mod counting;
 mod structures;
 
 use std::hint::black_box;
@@ -30,4 +31,6 @@ pub fn time<T>(mut call: impl FnMut() -> T) -> Duration {
 
 fn main() {
     structures::measure();
+    println!();
+    counting::measure();
 }

@@ -74,10 +74,21 @@ static void back(buffer b) {
     for (size_t k = 0; k < b.bytes; k++) give(bytes[k]);
 }
 
+/* What the header says is 0 in a refusal is held to it here, since the Rust crate drops it. */
 static void tell(ykm_answer answer) {
+    if (answer.number != 0 && answer.value != 0) _exit(7);
     say(answer.number);
     say(answer.place);
     say(answer.value);
+}
+
+static void tell_counted(ykm_counted counted) {
+    if (counted.number != 0 && (counted.record.length | counted.record.gap | counted.count) != 0) _exit(7);
+    say(counted.number);
+    say(counted.place);
+    say(counted.record.length);
+    say(counted.record.gap);
+    say(counted.count);
 }
 
 int main(void) {
@@ -88,6 +99,7 @@ int main(void) {
         }
         case 1: {
             ykm_base base = ykm_read_base((uint8_t)number());
+            if (base.number != 0 && base.letter != 0) _exit(7);
             say(base.number);
             say(base.place);
             say(base.letter);
@@ -144,6 +156,17 @@ int main(void) {
         case 11: {
             buffer a = lend(0, 2), b = lend(1, 2);
             tell(ykm_mountain_distance(a.at, a.count, b.at, b.count));
+            break;
+        }
+        case 12: {
+            buffer seq = lend(0, 1);
+            size_t gap = number();
+            buffer bases = lend(1, 1), cells = lend(2, 2), pairs = lend(3, 2);
+            tell_counted(ykm_nussinov(seq.at, seq.count, gap, bases.at, bases.count,
+                                      cells.at, cells.count, pairs.at, pairs.count));
+            back(bases);
+            back(cells);
+            back(pairs);
             break;
         }
         default: _exit(4);

@@ -3,7 +3,7 @@
 //! The archive is for x86-64. On another host the program runs it under an emulator, so that
 //! everything above this module is tried there too.
 
-use crate::ffi::{Answer, Base};
+use crate::ffi::{Answer, Base, Counted, Record};
 use std::io::{BufReader, Read, Write};
 use std::process::{Child, ChildStdin, ChildStdout, Command, Stdio};
 use std::sync::{Mutex, MutexGuard, PoisonError};
@@ -219,4 +219,39 @@ pub unsafe fn ykm_base_pair_distance(a: *const u16, n: usize, b: *const u16, m: 
 
 pub unsafe fn ykm_mountain_distance(a: *const u16, n: usize, b: *const u16, m: usize) -> Answer {
     Call::new(11).lent(a, n).lent(b, m).answer()
+}
+
+// The C call has so many.
+#[allow(clippy::too_many_arguments)]
+pub unsafe fn ykm_nussinov(
+    seq: *const u8,
+    n: usize,
+    gap: usize,
+    bases: *mut u8,
+    bases_room: usize,
+    cells: *mut u16,
+    cells_room: usize,
+    pairs: *mut u16,
+    pairs_room: usize,
+) -> Counted {
+    let mut reply = Call::new(12)
+        .lent(seq, n)
+        .number(gap)
+        .lent(bases, bases_room)
+        .lent(cells, cells_room)
+        .lent(pairs, pairs_room)
+        .make();
+    let counted = Counted {
+        number: reply.number() as u32,
+        place: reply.number(),
+        record: Record {
+            length: reply.number(),
+            gap: reply.number(),
+        },
+        count: reply.number(),
+    };
+    reply.back(bases, bases_room);
+    reply.back(cells, cells_room);
+    reply.back(pairs, pairs_room);
+    counted
 }

@@ -20,6 +20,20 @@ pub struct Answer {
     pub value: usize,
 }
 
+#[repr(C)]
+pub struct Record {
+    pub length: usize,
+    pub gap: usize,
+}
+
+#[repr(C)]
+pub struct Counted {
+    pub number: u32,
+    pub place: usize,
+    pub record: Record,
+    pub count: usize,
+}
+
 #[cfg(not(feature = "bridge"))]
 extern "C" {
     pub fn ykm_version() -> u32;
@@ -59,6 +73,17 @@ extern "C" {
         b: *const u16,
         b_length: usize,
     ) -> Answer;
+    pub fn ykm_nussinov(
+        seq: *const u8,
+        seq_length: usize,
+        gap: usize,
+        bases: *mut u8,
+        bases_length: usize,
+        cells: *mut u16,
+        cells_length: usize,
+        pairs: *mut u16,
+        pairs_length: usize,
+    ) -> Counted;
 }
 
 #[cfg(feature = "bridge")]

@@ -12,12 +12,15 @@
 mod bases;
 #[cfg(feature = "bridge")]
 mod bridge;
+mod counting;
 mod ffi;
+pub mod folds;
 mod refusal;
 mod structure;
 pub mod tables;
 
 pub use bases::{can_pair, pair_index, read_base};
+pub use counting::{nussinov, NussinovResult};
 pub use refusal::{Refusal, Result};
 pub use structure::{base_pair_distance, mountain_distance, RnaSecondaryStructure};
 

@@ -38,12 +38,8 @@ impl RnaSecondaryStructure {
     /// ```
     pub fn from_dot_bracket(s: &str) -> Result<Self> {
         let mut table = vec![0; s.len()];
-        let length = tables::from_dot_bracket(s.as_bytes(), &mut table)?;
-        let pairs = table
-            .into_iter()
-            .map(|entry| (entry != tables::UNPAIRED).then_some(entry.into()))
-            .collect();
-        Ok(Self { pairs, length })
+        tables::from_dot_bracket(s.as_bytes(), &mut table)?;
+        Ok(Self::from_table(&table))
     }
 
     /// Whether the structure is one that the calls take.
@@ -107,6 +103,15 @@ impl RnaSecondaryStructure {
     /// If [`check`](Self::check) refuses.
     pub fn num_pairs(&self) -> usize {
         expect(tables::num_pairs(&self.table()))
+    }
+
+    /// From the form that is lent.
+    pub(crate) fn from_table(table: &[u16]) -> Self {
+        let partner = |&entry: &u16| (entry != tables::UNPAIRED).then_some(entry.into());
+        Self {
+            pairs: table.iter().map(partner).collect(),
+            length: table.len(),
+        }
     }
 
     /// The lent form. A partner too large for 16 bits becomes a number that is no position, so

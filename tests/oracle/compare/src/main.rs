@@ -4,6 +4,7 @@
 //! it and status 1. SIZE is the number of rounds of random cases; what is exhaustive is run in full.
 
 mod bases;
+mod counting;
 mod slow;
 mod structures;
 
@@ -12,6 +13,13 @@ use strands::Random;
 
 /// What a part of the comparison found: a sentence on what was compared, or the first difference.
 type Found = Result<String, String>;
+
+fn same<T: PartialEq + std::fmt::Debug>(what: &str, ours: T, due: T) -> Result<(), String> {
+    if ours == due {
+        return Ok(());
+    }
+    Err(format!("{what}: Yukemasop {ours:?}, due {due:?}"))
+}
 
 fn main() -> ExitCode {
     let words: Vec<String> = std::env::args().skip(1).collect();
@@ -24,11 +32,13 @@ fn main() -> ExitCode {
     let size = numbers.get(1).copied().unwrap_or(1000) as usize;
     let mut random = Random::new(seed);
     println!("seed {seed}, size {size}");
-    let parts: [&mut dyn FnMut() -> Found; 2] = [&mut bases::compare, &mut || {
-        structures::compare(&mut random, size)
-    }];
+    let parts: [fn(&mut Random, usize) -> Found; 3] = [
+        |_, _| bases::compare(),
+        structures::compare,
+        counting::compare,
+    ];
     for part in parts {
-        match part() {
+        match part(&mut random, size) {
             Ok(compared) => println!("{compared}: no difference"),
             Err(difference) => {
                 println!("a difference: {difference}");

@@ -1,7 +1,7 @@
 //! Bracket text, pair tables, queries and distances, accepted and refused, with the memory before and after.
 
 use crate::slow::{self, refusal};
-use crate::Found;
+use crate::{same, Found};
 use original::rna_structure as theirs;
 use std::collections::VecDeque;
 use strands::Random;
@@ -44,13 +44,6 @@ struct Calls {
     tables: usize,
     couples: usize,
     refused: usize,
-}
-
-fn same<T: PartialEq + std::fmt::Debug>(what: &str, ours: T, due: T) -> Result<(), String> {
-    if ours == due {
-        return Ok(());
-    }
-    Err(format!("{what}: Yukemasop {ours:?}, due {due:?}"))
 }
 
 impl Calls {
