@@ -13,8 +13,11 @@ use Rattle.structure.specs.declared.Pairing.{Pairing}
 use Rattle.structure.specs.declared.Pairing.the-variants.{Paired, Refused as PairingRefused}
 use Rattle.structure.specs.declared.Mate.{Mate}
 use Rattle.structure.specs.declared.Mate.the-variants.{With, Nobody, Refused as MateRefused}
+use Rattle.counting.specs.declared.Counted.{Counted}
+use Rattle.counting.specs.declared.Counted.the-variants.{Folded, Refused as CountedRefused}
 use Rattle.yukemasop.specs.declared.flat.YkmBase.{YkmBase}
 use Rattle.yukemasop.specs.declared.flat.YkmAnswer.{YkmAnswer}
+use Rattle.yukemasop.specs.declared.flat.YkmCounted.{YkmCounted}
 
 -- no place is the largest number of 64 bits
 abbrev pub flatPlace : Place → ℕ
@@ -46,6 +49,11 @@ flatPartner (With j) = flatAnswer (Number j)
 flatPartner Nobody = flatAnswer (Number (flatPlace Nowhere))
 flatPartner (MateRefused q) = flatRefusal q
 
+-- a fold: 0, no place, its record and its count; a refusal: its number and place, and 0 elsewhere
+abbrev pub flatCounted : Counted → YkmCounted
+flatCounted (Folded k m) = record { number = 0; place = flatPlace Nowhere; kept = record { length = k .length; gap = k .gap }; count = m }
+flatCounted (CountedRefused q) = record { number = number q; place = flatPlace (place q); kept = record { length = 0; gap = 0 }; count = 0 }
+
 -- the struct is an answer that the library's call permits
-abbrev pub Flat : {A : Type 0} → (A → YkmAnswer) → (A → Type 0) → YkmAnswer → Type 0
+abbrev pub Flat : {A B : Type 0} → (A → B) → (A → Type 0) → B → Type 0
 Flat {A} flat meets r = (a : A) × meets a × (r ≡ flat a)

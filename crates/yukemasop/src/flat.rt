@@ -1,11 +1,12 @@
 // Answers as structs of numbers, for C.
+use counting::Counted;
 use refusals::Place;
 use refusals::Refusal;
 use structure::Answer;
 use structure::Mate;
 use structure::Pairing;
 ghost use mathlib.Core.Path.{_≡_};
-ghost use Rattle.yukemasop.specs.Flat.{flatPlace, flatRefusal, flatAnswer, flatPairing, flatPartner};
+ghost use Rattle.yukemasop.specs.Flat.{flatPlace, flatRefusal, flatAnswer, flatPairing, flatPartner, flatCounted};
 
 #[repr(C)]
 pub struct YkmBase {
@@ -19,6 +20,20 @@ pub struct YkmAnswer {
     pub number: u32,
     pub place: usize,
     pub value: usize,
+}
+
+#[repr(C)]
+pub struct YkmRecord {
+    pub length: usize,
+    pub gap: usize,
+}
+
+#[repr(C)]
+pub struct YkmCounted {
+    pub number: u32,
+    pub place: usize,
+    pub kept: YkmRecord,
+    pub count: usize,
 }
 
 pub fn flat_place(place: Place) -> usize
@@ -80,5 +95,27 @@ pub fn flat_partner(partner: Mate) -> YkmAnswer
         Mate::With(j) => flat_number(j),
         Mate::Nobody => flat_number(flat_place(Place::Nowhere)),
         Mate::Refused(refusal) => flat_refusal(refusal),
+    }
+}
+
+pub fn flat_counted(counted: Counted) -> YkmCounted
+    ensures { λ r. ⌜ r ≡ flatCounted counted ⌝ }
+{
+    match counted {
+        Counted::Folded(folded, count) => YkmCounted {
+            number: 0,
+            place: flat_place(Place::Nowhere),
+            kept: YkmRecord {
+                length: folded.length,
+                gap: folded.gap,
+            },
+            count,
+        },
+        Counted::Refused(refusal) => YkmCounted {
+            number: refusals::number_of(refusal),
+            place: flat_place(refusals::place_of(refusal)),
+            kept: YkmRecord { length: 0, gap: 0 },
+            count: 0,
+        },
     }
 }

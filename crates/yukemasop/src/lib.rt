@@ -3,13 +3,15 @@
 use bases::Reading;
 use flat::YkmAnswer;
 use flat::YkmBase;
+use flat::YkmCounted;
 use refusals::Place;
 use refusals::Refusal;
 ghost use mathlib.Core.Path.{_≡_};
 ghost use Rattle.bases.specs.Bases.{reads, canPair, pairIndex};
+ghost use Rattle.counting.specs.Calls.{Folds};
 ghost use Rattle.structure.specs.Calls.{Parses, Spells, Lists, Pairs, Partners, Counts, Measures};
 ghost use Rattle.structure.specs.Distance.{basePairDistance, mountainDistance};
-ghost use Rattle.yukemasop.specs.Flat.{flatBase, flatAnswer, flatPairing, flatPartner, Flat};
+ghost use Rattle.yukemasop.specs.Flat.{flatBase, flatAnswer, flatPairing, flatPartner, flatCounted, Flat};
 
 mod flat;
 
@@ -111,4 +113,17 @@ pub extern "C" fn ykm_mountain_distance(a: &[u16], b: &[u16]) -> YkmAnswer
     ensures { λ r. ⌜ Flat flatAnswer (Measures (now (a .entry)) (now (b .entry)) (mountainDistance (now (a .entry)) (now (b .entry)))) r ⌝ }
 {
     flat::flat_answer(structure::mountain_distance(a, b))
+}
+
+#[no_mangle]
+pub extern "C" fn ykm_nussinov(
+    seq: &[u8],
+    gap: usize,
+    bases: &mut [u8],
+    cells: &mut [u16],
+    pairs: &mut [u16],
+) -> YkmCounted
+    ensures { λ r. ⌜ Flat flatCounted (Folds (now (seq .entry)) gap (now (bases .entry)) (now (bases .exit)) (now (cells .entry)) (now (cells .exit)) (now (pairs .entry)) (now (pairs .exit))) r ⌝ }
+{
+    flat::flat_counted(counting::nussinov(seq, gap, bases, cells, pairs))
 }
