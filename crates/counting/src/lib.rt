@@ -21,6 +21,18 @@ pub enum Counted {
     Refused(Refusal),
 }
 
+// The record and the count after an edit, or the refusal with the record as it came.
+pub enum Edited {
+    Done(Record, usize),
+    Refused(Refusal, Record),
+}
+
+// The number of pairs traced, or the refusal.
+pub enum Traced {
+    Pairs(usize),
+    Refused(Refusal),
+}
+
 // The count of n bases: the cell of the whole span.
 fn count(cells: &[u16], n: usize) -> usize
     requires { ⌜ (0 < n) × (n < 65535) × (tri n ≤ length (now cells)) ⌝ }
