@@ -2,6 +2,7 @@
 // The list is data/answers.txt, which tests/oracle/make-answers makes.
 use counting::Counted;
 use lines::Reading;
+use refusals::FOLD_LIMIT;
 use report::Tally;
 use structure::Answer;
 
@@ -19,7 +20,7 @@ fn count_agrees(count: usize, field: &[u8]) -> bool {
 
 // Is a pair table's text the BRACKETS that a line has for it?
 fn brackets_agree(table: &[u16], field: &[u8]) -> bool {
-    let mut text = [0u8; 256];
+    let mut text = [0u8; FOLD_LIMIT];
     let answer = structure::to_dot_bracket(table, &mut text);
     let Answer::Number(n) = answer else {
         return false;
@@ -46,8 +47,8 @@ fn line_agrees(line: &[u8], bases: &mut [u8], cells: &mut [u16], pairs: &mut [u1
     if !count_agrees(count, lines::field(line, 2)) {
         return false;
     }
-    // Never so after a fold: asked here because it is shorter than to prove it.
     let n = record.length;
+    // Never so after a fold: a test is shorter than the proof of that.
     if pairs.len() < n {
         return false;
     }
@@ -67,15 +68,15 @@ fn replay(list: &[u8], bases: &mut [u8], cells: &mut [u16], pairs: &mut [u16]) -
     tally
 }
 
-// Lends room for 256 bases, the most that a fold takes.
+// Lends room for the longest fold there is.
 fn run(list: &[u8]) {
-    let mut bases = [0u8; 256];
-    let mut cells = [0u16; 32896];
-    let mut pairs = [0u16; 256];
+    let mut bases = [0u8; FOLD_LIMIT];
+    let mut cells = [0u16; FOLD_LIMIT * (FOLD_LIMIT + 1) / 2];
+    let mut pairs = [0u16; FOLD_LIMIT];
     report::write(replay(list, &mut bases, &mut cells, &mut pairs));
 }
 
-// The list is shorter than the room for it; of a longer one the last line would be cut, and so differ.
+// The list is shorter than the room for it. What is past the room isn't read, and a line that is cut there differs.
 fn main() {
     let fd = os::open_read(b"answers.txt");
     if fd < 0 {

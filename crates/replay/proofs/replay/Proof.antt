@@ -7,7 +7,8 @@ use Rattle.replay.proofs.replay.Statement.{statement}
 use Rattle.replay.proofs.replay.Tie as tie
 
 abbrev Inv-loop : tie.InvT-loop
-Inv-loop list bases₀ cells₀ pairs₀ tally₀ at₀ bases cells pairs tally at = (tally .agreed ≤ tally .lines) × (tally .lines ≤ at) × (at ≤ length list) × (length bases ≡ length bases₀) × (length cells ≡ length cells₀) × (length pairs ≡ length pairs₀)
+Inv-loop list bases₀ cells₀ pairs₀ tally₀ at₀ bases cells pairs tally at =
+    (tally .agreed ≤ tally .lines) × (tally .lines ≤ at) × (at ≤ length list) × (length bases ≡ length bases₀) × (length cells ≡ length cells₀) × (length pairs ≡ length pairs₀)
 
 abbrev μ-loop : tie.MeasureT-loop
 μ-loop list bases₀ cells₀ pairs₀ tally₀ at₀ bases cells pairs tally at = length list - at
