@@ -47,8 +47,9 @@ front-at : (w o : List ℕ) (n k : ℕ) → k < length w → view (w ++ drop n o
 front-at w o n k h = List·getD-append w (drop n o) 0 k h
 
 module _ (s : List ℕ) (gap : ℕ) (b b′ t t′ o o′ : List ℕ) (r : Record) (m : ℕ) (f : Folds s gap b b′ t t′ o o′ (Folded r m)) where
-  letters : (k : ℕ) → k < length s → view b′ k ≡ view (map normal s) k
-  letters k h = ap (λ (l : List ℕ). view l k) (f .2 .bases) ∙ front-at (map normal s) b (length s) k (rw (length-map s normal) h)
+  -- the first bases are the letters of the sequence
+  pub fold-letters : (k : ℕ) → k < length s → view b′ k ≡ view (map normal s) k
+  fold-letters k h = ap (λ (l : List ℕ). view l k) (f .2 .bases) ∙ front-at (map normal s) b (length s) k (rw (length-map s normal) h)
 
   -- the pair table is an allowed structure with as many pairs as the count, and no allowed structure has more
   pub most-pairs : Greatest s gap (take (length s) o′) m
@@ -61,7 +62,7 @@ module _ (s : List ℕ) (gap : ℕ) (b b′ t t′ o o′ : List ℕ) (r : Recor
       let long = ap length (f .2 .pairs) ∙ traced-long b′ t′ gap n o (u .pairs) in
       let all = length-take-le n o′ (omega (arith, u .pairs)) in
       let entry : (k : ℕ) → 0 ≤ k → k < n → view (take n o′) k ≡ view traced k = λ k l h. getD-take n o′ k 0 h ∙ ap (λ (x : List ℕ). view x k) (f .2 .pairs) in
-      let allowed = allowed-same entry (may-same (view b′) (view (map normal s)) gap n letters)
+      let allowed = allowed-same entry (may-same (view b′) (view (map normal s)) gap n fold-letters)
       (traced-allowed b′ t′ gap n o (u .some) (omega (arith, u .short)) (u .pairs) right) in
       record {
         sound = rw all (allowed .fold);
@@ -73,7 +74,7 @@ module _ (s : List ℕ) (gap : ℕ) (b b′ t t′ o o′ : List ℕ) (r : Recor
           f .3,
         ));
         most = λ q p.
-            let a = allowed-same (λ k l h. refl) (may-same (view (map normal s)) (view b′) gap n (λ k h. sym (letters k h))) (p .1) in
+            let a = allowed-same (λ k l h. refl) (may-same (view (map normal s)) (view b′) gap n (λ k h. sym (fold-letters k h))) (p .1) in
             omega (arith, greatest gap n (view b′) (at (view t′)) (u .some) (omega (arith, u .short)) right q (p .0) a, f .3);
       }
 

@@ -1,2 +1,3 @@
 -- The bench sheet's proved lines.
+pub mod Counts
 pub mod Table

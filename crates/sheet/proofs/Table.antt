@@ -5,11 +5,23 @@ use Prim.Native.Nat.{ℕ, _≤_}
 use native.Mathlib.Omega.{arith}
 use lib.ListN.{length}
 use borrow.Author.Tests.{le-ltb}
+use lib.Dec.{lit<, lit≤}
 use Rattle.refusals.specs.Refusals.{clear, refuse, dueOf}
 use Rattle.refusals.specs.declared.Place.the-variants.{At}
 use Rattle.refusals.proofs.Laws.{one-of}
 use Rattle.structure.specs.declared.Answer.the-variants.{Number, Refused}
+use Rattle.bases.specs.Bases.{reads, noBase, normal, canPair}
+use Rattle.sequences.specs.Sequences.{basesDue}
+use Rattle.structure.specs.Table.{unpaired, glyphs, brackets}
 use Rattle.structure.specs.Text.{textDue, unmatched}
+use Rattle.cells.specs.Tri.{tri}
+use Rattle.cells.specs.Rule.{span}
+use Rattle.cells.specs.Solve.{every}
+use Rattle.count_rule.specs.Rule.{mayPair, best, paired, split, nussinov}
+use Rattle.count_trace.specs.Choosing.{firstOf, closesOf, splitAt, splitOf, choice}
+use Rattle.count_trace.specs.Trace.{traceOf, tracedOf}
+use Rattle.counting.specs.Calls.{countOf}
+use Rattle.sheet.proofs.Counts.{counted}
 use Rattle.sheet.specs.Lines.{text-accepted, text-refused, Says, table, Every}
 
 accepted : (s : List ℕ) → ((room : ℕ) → length s ≤ room → textDue s room ≡ clear) → Says (text-accepted s)
@@ -20,9 +32,38 @@ denied : (s : List ℕ) (num k : ℕ) → ((room : ℕ) → textDue s room ≡ r
 denied s num k due o o′ (Number n) p = let e = sym (p .0) ∙ due (length o) in let z : _≡_ {A = ℕ} 0 1 = cc in absurd (omega arith)
 denied s num k due o o′ (Refused q) p = let e : dueOf q ≡ refuse num (At k) = sym (p .0) ∙ due (length o) in (q, refl, cc, cc)
 
+-- the certificate of GGGGCCCC, and its pair table
+eight : List ℕ
+eight =
+    0 ∷ 0 ∷ 0 ∷ 0 ∷ 0 ∷ 0 ∷ 0 ∷ 0 ∷ 0 ∷ 0 ∷ 1 ∷ 0 ∷ 0 ∷ 0 ∷ 0 ∷ 1 ∷ 1 ∷ 0 ∷ 0 ∷ 0 ∷ 0 ∷ 2 ∷ 1 ∷ 1 ∷ 0 ∷ 0 ∷ 0 ∷ 0 ∷ 2 ∷ 2 ∷ 1 ∷ 1 ∷ 0 ∷ 0 ∷ 0 ∷ 0 ∷ []
+
+nested : List ℕ
+nested = unpaired ∷ 7 ∷ 6 ∷ unpaired ∷ unpaired ∷ unpaired ∷ 2 ∷ 1 ∷ []
+
 pub bench-sheet : Every table
-unfolding textDue unmatched
+unfolding textDue unmatched eight nested reads noBase normal basesDue canPair mayPair span best paired split nussinov tri every firstOf closesOf splitAt splitOf choice traceOf tracedOf countOf glyphs brackets
 bench-sheet = (
   accepted [] (λ room h. rw (le-ltb room 0 h)),
-  (denied (41 ∷ 40 ∷ []) 5 0 (λ room. refl), (denied (40 ∷ 46 ∷ 120 ∷ []) 6 2 (λ room. refl), (denied (46 ∷ 40 ∷ 40 ∷ 41 ∷ []) 7 1 (λ room. refl), tt))),
+  (
+    denied (41 ∷ 40 ∷ []) 5 0 (λ room. refl),
+    (
+      denied (40 ∷ 46 ∷ 120 ∷ []) 6 2 (λ room. refl),
+      (
+        denied (46 ∷ 40 ∷ 40 ∷ 41 ∷ []) 7 1 (λ room. refl),
+        (
+          counted (65 ∷ []) (0 ∷ []) (unpaired ∷ []) 3 0 (46 ∷ []) (lit< tt) (lit≤ tt) refl refl tt refl refl refl refl,
+          (
+            counted (71 ∷ 67 ∷ []) (0 ∷ 1 ∷ 0 ∷ []) (1 ∷ 0 ∷ []) 0 1 (40 ∷ 41 ∷ []) (lit< tt) (lit≤ tt) refl refl tt refl refl refl refl,
+            (
+              counted (71 ∷ 67 ∷ []) (0 ∷ 0 ∷ 0 ∷ []) (unpaired ∷ unpaired ∷ []) 1 0 (46 ∷ 46 ∷ []) (lit< tt) (lit≤ tt) refl refl tt refl refl refl refl,
+              (
+                counted (71 ∷ 71 ∷ 71 ∷ 71 ∷ 67 ∷ 67 ∷ 67 ∷ 67 ∷ []) eight nested 3 2 (46 ∷ 40 ∷ 40 ∷ 46 ∷ 46 ∷ 46 ∷ 41 ∷ 41 ∷ []) (lit< tt) (lit≤ tt) refl refl tt refl refl refl refl,
+                tt,
+              ),
+            ),
+          ),
+        ),
+      ),
+    ),
+  ),
 )

@@ -1,6 +1,6 @@
 -- Mountains: what closes never exceeds what opened, so a running height is the height; and how far heights and sums go. Assumes nothing.
-use mathlib.Core.Path.{_≡_, refl, ap}
-use mathlib.Core.Bool.{Bool, true, false, cond, not, _||_}
+use mathlib.Core.Path.{_≡_, ap}
+use mathlib.Core.Bool.{cond, not, _||_}
 use mathlib.Core.Logic.{_≢_, by-cases}
 use mathlib.Core.List.{List}
 use Prim.Native.Nat.{ℕ, zero, suc, _+_, _-_, _*_, _<_, _≤_}
@@ -12,7 +12,7 @@ use lib.ListN.{length}
 use borrow.Author.Tests.{lt-ltb, le-ltb, ltb-false, eq-eqb, ne-eqb, eqb-true, not-false}
 use Rattle.refusals.specs.Refusals.{clear, check, then, structureLimit}
 use Rattle.refusals.specs.declared.Place.the-variants.{Nowhere}
-use Rattle.refusals.proofs.Laws.{check-clear, then-clear}
+use Rattle.refusals.proofs.Laws.{check-clear, then-clear, neither}
 use Rattle.structure.specs.Table.{unpaired, Fold, Sound, opens, opened}
 use Rattle.structure.specs.Soundness.{unsoundDue, bothDue}
 use Rattle.structure.specs.Distance.{lacks, apart, closes, closed, height, between, climbs}
@@ -139,9 +139,5 @@ both-clear s t e =
     let d = then-clear (check other 9 Nowhere) unsound (c .1) in
     let f = then-clear (unsoundDue s) (unsoundDue t) (d .1) in
     let same = eqb-true (length s) (length t) (not-false _ (check-clear other 9 Nowhere (d .0))) in
-    let short = ltb-false structureLimit (length s) (neither (ltb structureLimit (length s)) _ (check-clear long 3 Nowhere (c .0))) in
+    let short = ltb-false structureLimit (length s) (neither (ltb structureLimit (length s)) (ltb structureLimit (length t)) (check-clear long 3 Nowhere (c .0)) .0) in
     (same, short, sound s (omega arith) (f .0), sound t (omega arith) (f .1))
-  where
-    neither : (p q : Bool) → (p || q) ≡ false → p ≡ false
-    neither true q e = e
-    neither false q e = refl

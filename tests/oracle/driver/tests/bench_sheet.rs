@@ -1,4 +1,4 @@
-//! The bench sheet's lines of `answers.txt`, against the figures typed from the sheet.
+//! The bench sheet's lines of the list of answers, against the figures typed from the sheet.
 
 /// Gap, strand, count, brackets, energy, brackets; `_` where the sheet says nothing.
 const SHEET: [&str; 10] = [
@@ -16,7 +16,7 @@ const SHEET: [&str; 10] = [
 
 #[test]
 fn the_list_starts_with_the_bench_sheet() {
-    let mut answers = include_str!("../../answers.txt").lines();
+    let mut answers = include_str!("../../../../crates/replay/data/answers.txt").lines();
     for expected in SHEET {
         let answer = answers.next().unwrap_or_default();
         let same = |(a, e): (&str, &str)| e == "_" || a == e;
