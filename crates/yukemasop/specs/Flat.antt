@@ -15,8 +15,14 @@ use Rattle.structure.specs.declared.Mate.{Mate}
 use Rattle.structure.specs.declared.Mate.the-variants.{With, Nobody, Refused as MateRefused}
 use Rattle.counting.specs.declared.Counted.{Counted}
 use Rattle.counting.specs.declared.Counted.the-variants.{Folded, Refused as CountedRefused}
+use Rattle.counting.specs.declared.Edited.{Edited}
+use Rattle.counting.specs.declared.Edited.the-variants.{Done, Refused as EditRefused}
+use Rattle.counting.specs.declared.Traced.{Traced}
+use Rattle.counting.specs.declared.Traced.the-variants.{Pairs, Refused as TraceRefused}
+use Rattle.counting.specs.declared.Record.{Record}
 use Rattle.yukemasop.specs.declared.flat.YkmBase.{YkmBase}
 use Rattle.yukemasop.specs.declared.flat.YkmAnswer.{YkmAnswer}
+use Rattle.yukemasop.specs.declared.flat.YkmRecord.{YkmRecord}
 use Rattle.yukemasop.specs.declared.flat.YkmCounted.{YkmCounted}
 
 -- no place is the largest number of 64 bits
@@ -53,6 +59,20 @@ flatPartner (MateRefused q) = flatRefusal q
 abbrev pub flatCounted : Counted → YkmCounted
 flatCounted (Folded k m) = record { number = 0; place = flatPlace Nowhere; kept = record { length = k .length; gap = k .gap }; count = m }
 flatCounted (CountedRefused q) = record { number = number q; place = flatPlace (place q); kept = record { length = 0; gap = 0 }; count = 0 }
+
+-- an edit: the same, and a refusal gives the record back
+abbrev pub flatEdited : Edited → YkmCounted
+flatEdited (Done k m) = flatCounted (Folded k m)
+flatEdited (EditRefused q k) = record { number = number q; place = flatPlace (place q); kept = record { length = k .length; gap = k .gap }; count = 0 }
+
+-- a traceback: the number of pairs
+abbrev pub flatTraced : Traced → YkmAnswer
+flatTraced (Pairs m) = flatAnswer (Number m)
+flatTraced (TraceRefused q) = flatRefusal q
+
+-- the library's record of a flat one
+abbrev pub recordIn : YkmRecord → Record
+recordIn k = record { length = k .length; gap = k .gap }
 
 -- the struct is an answer that the library's call permits
 abbrev pub Flat : {A B : Type 0} → (A → B) → (A → Type 0) → B → Type 0

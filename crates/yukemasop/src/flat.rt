@@ -1,12 +1,15 @@
 // Answers as structs of numbers, for C.
 use counting::Counted;
+use counting::Edited;
+use counting::Record;
+use counting::Traced;
 use refusals::Place;
 use refusals::Refusal;
 use structure::Answer;
 use structure::Mate;
 use structure::Pairing;
 ghost use mathlib.Core.Path.{_≡_};
-ghost use Rattle.yukemasop.specs.Flat.{flatPlace, flatRefusal, flatAnswer, flatPairing, flatPartner, flatCounted};
+ghost use Rattle.yukemasop.specs.Flat.{flatPlace, flatRefusal, flatAnswer, flatPairing, flatPartner, flatCounted, flatEdited, flatTraced, recordIn};
 
 #[repr(C)]
 pub struct YkmBase {
@@ -117,5 +120,49 @@ pub fn flat_counted(counted: Counted) -> YkmCounted
             kept: YkmRecord { length: 0, gap: 0 },
             count: 0,
         },
+    }
+}
+
+pub fn flat_edited(edited: Edited) -> YkmCounted
+    ensures { λ r. ⌜ r ≡ flatEdited edited ⌝ }
+{
+    match edited {
+        Edited::Done(made, count) => YkmCounted {
+            number: 0,
+            place: flat_place(Place::Nowhere),
+            kept: YkmRecord {
+                length: made.length,
+                gap: made.gap,
+            },
+            count,
+        },
+        Edited::Refused(refusal, back) => YkmCounted {
+            number: refusals::number_of(refusal),
+            place: flat_place(refusals::place_of(refusal)),
+            kept: YkmRecord {
+                length: back.length,
+                gap: back.gap,
+            },
+            count: 0,
+        },
+    }
+}
+
+pub fn flat_traced(traced: Traced) -> YkmAnswer
+    ensures { λ r. ⌜ r ≡ flatTraced traced ⌝ }
+{
+    match traced {
+        Traced::Pairs(count) => flat_number(count),
+        Traced::Refused(refusal) => flat_refusal(refusal),
+    }
+}
+
+// The library's record of a flat one.
+pub fn record_in(held: YkmRecord) -> Record
+    ensures { λ r. ⌜ r ≡ recordIn held ⌝ }
+{
+    Record {
+        length: held.length,
+        gap: held.gap,
     }
 }

@@ -4,14 +4,15 @@ use bases::Reading;
 use flat::YkmAnswer;
 use flat::YkmBase;
 use flat::YkmCounted;
+use flat::YkmRecord;
 use refusals::Place;
 use refusals::Refusal;
 ghost use mathlib.Core.Path.{_≡_};
 ghost use Rattle.bases.specs.Bases.{reads, canPair, pairIndex};
-ghost use Rattle.counting.specs.Calls.{Folds};
+ghost use Rattle.counting.specs.Calls.{Folds, Replaces, Adds, Erases, Traces};
 ghost use Rattle.structure.specs.Calls.{Parses, Spells, Lists, Pairs, Partners, Counts, Measures};
 ghost use Rattle.structure.specs.Distance.{basePairDistance, mountainDistance};
-ghost use Rattle.yukemasop.specs.Flat.{flatBase, flatAnswer, flatPairing, flatPartner, flatCounted, Flat};
+ghost use Rattle.yukemasop.specs.Flat.{flatBase, flatAnswer, flatPairing, flatPartner, flatCounted, flatEdited, flatTraced, recordIn, Flat};
 
 mod flat;
 
@@ -126,4 +127,32 @@ pub extern "C" fn ykm_nussinov(
     ensures { λ r. ⌜ Flat flatCounted (Folds (now (seq .entry)) gap (now (bases .entry)) (now (bases .exit)) (now (cells .entry)) (now (cells .exit)) (now (pairs .entry)) (now (pairs .exit))) r ⌝ }
 {
     flat::flat_counted(counting::nussinov(seq, gap, bases, cells, pairs))
+}
+
+#[no_mangle]
+pub extern "C" fn ykm_replace(held: YkmRecord, bases: &mut [u8], cells: &mut [u16], position: usize, byte: u8) -> YkmCounted
+    ensures { λ r. ⌜ Flat flatEdited (Replaces (recordIn held) (now (bases .entry)) (now (bases .exit)) (now (cells .entry)) (now (cells .exit)) position byte) r ⌝ }
+{
+    flat::flat_edited(counting::replace(flat::record_in(held), bases, cells, position, byte))
+}
+
+#[no_mangle]
+pub extern "C" fn ykm_add(held: YkmRecord, bases: &mut [u8], cells: &mut [u16], byte: u8) -> YkmCounted
+    ensures { λ r. ⌜ Flat flatEdited (Adds (recordIn held) (now (bases .entry)) (now (bases .exit)) (now (cells .entry)) (now (cells .exit)) byte) r ⌝ }
+{
+    flat::flat_edited(counting::add(flat::record_in(held), bases, cells, byte))
+}
+
+#[no_mangle]
+pub extern "C" fn ykm_erase(held: YkmRecord, bases: &[u8], cells: &[u16]) -> YkmCounted
+    ensures { λ r. ⌜ Flat flatEdited (Erases (recordIn held) (now (bases .entry)) (now (cells .entry))) r ⌝ }
+{
+    flat::flat_edited(counting::erase(flat::record_in(held), bases, cells))
+}
+
+#[no_mangle]
+pub extern "C" fn ykm_traceback(held: YkmRecord, bases: &[u8], cells: &[u16], pairs: &mut [u16]) -> YkmAnswer
+    ensures { λ r. ⌜ Flat flatTraced (Traces (recordIn held) (now (bases .entry)) (now (cells .entry)) (now (pairs .entry)) (now (pairs .exit))) r ⌝ }
+{
+    flat::flat_traced(counting::traceback(flat::record_in(held), bases, cells, pairs))
 }
