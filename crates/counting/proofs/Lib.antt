@@ -1,4 +1,5 @@
 -- The theorems of the public pair-count calls.
 pub mod Accepted
+pub mod Believable
 pub mod MostPairs
 pub mod OneAnswer
