@@ -1,7 +1,6 @@
 // Answers as structs of numbers, for C.
 use counting::Counted;
 use counting::Edited;
-use counting::Record;
 use counting::Traced;
 use refusals::Place;
 use refusals::Refusal;
@@ -9,7 +8,7 @@ use structure::Answer;
 use structure::Mate;
 use structure::Pairing;
 ghost use mathlib.Core.Path.{_≡_};
-ghost use Rattle.yukemasop.specs.Flat.{flatPlace, flatRefusal, flatAnswer, flatPairing, flatPartner, flatCounted, flatEdited, flatTraced, recordIn};
+ghost use Rattle.yukemasop.specs.Flat.{flatPlace, flatRefusal, flatAnswer, flatPairing, flatPartner, flatCounted, flatEdited, flatTraced};
 
 #[repr(C)]
 pub struct YkmBase {
@@ -154,15 +153,5 @@ pub fn flat_traced(traced: Traced) -> YkmAnswer
     match traced {
         Traced::Pairs(count) => flat_number(count),
         Traced::Refused(refusal) => flat_refusal(refusal),
-    }
-}
-
-// The library's record of a flat one.
-pub fn record_in(held: YkmRecord) -> Record
-    ensures { λ r. ⌜ r ≡ recordIn held ⌝ }
-{
-    Record {
-        length: held.length,
-        gap: held.gap,
     }
 }

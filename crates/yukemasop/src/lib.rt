@@ -1,6 +1,7 @@
 // The C interface: the libraries' calls under plain names, their answers flattened into structs of numbers. No logic stands here.
 // include/yukemasop.h declares each call; a struct's first field is the refusal's number (0: accepted), its second the place (the largest usize: none).
 use bases::Reading;
+use counting::Record;
 use flat::YkmAnswer;
 use flat::YkmBase;
 use flat::YkmCounted;
@@ -130,29 +131,61 @@ pub extern "C" fn ykm_nussinov(
 }
 
 #[no_mangle]
-pub extern "C" fn ykm_replace(held: YkmRecord, bases: &mut [u8], cells: &mut [u16], position: usize, byte: u8) -> YkmCounted
+pub extern "C" fn ykm_replace(
+    held: YkmRecord,
+    bases: &mut [u8],
+    cells: &mut [u16],
+    position: usize,
+    byte: u8,
+) -> YkmCounted
     ensures { λ r. ⌜ Flat flatEdited (Replaces (recordIn held) (now (bases .entry)) (now (bases .exit)) (now (cells .entry)) (now (cells .exit)) position byte) r ⌝ }
 {
-    flat::flat_edited(counting::replace(flat::record_in(held), bases, cells, position, byte))
+    let kept = Record {
+        length: held.length,
+        gap: held.gap,
+    };
+    flat::flat_edited(counting::replace(kept, bases, cells, position, byte))
 }
 
 #[no_mangle]
-pub extern "C" fn ykm_add(held: YkmRecord, bases: &mut [u8], cells: &mut [u16], byte: u8) -> YkmCounted
+pub extern "C" fn ykm_add(
+    held: YkmRecord,
+    bases: &mut [u8],
+    cells: &mut [u16],
+    byte: u8,
+) -> YkmCounted
     ensures { λ r. ⌜ Flat flatEdited (Adds (recordIn held) (now (bases .entry)) (now (bases .exit)) (now (cells .entry)) (now (cells .exit)) byte) r ⌝ }
 {
-    flat::flat_edited(counting::add(flat::record_in(held), bases, cells, byte))
+    let kept = Record {
+        length: held.length,
+        gap: held.gap,
+    };
+    flat::flat_edited(counting::add(kept, bases, cells, byte))
 }
 
 #[no_mangle]
 pub extern "C" fn ykm_erase(held: YkmRecord, bases: &[u8], cells: &[u16]) -> YkmCounted
     ensures { λ r. ⌜ Flat flatEdited (Erases (recordIn held) (now (bases .entry)) (now (cells .entry))) r ⌝ }
 {
-    flat::flat_edited(counting::erase(flat::record_in(held), bases, cells))
+    let kept = Record {
+        length: held.length,
+        gap: held.gap,
+    };
+    flat::flat_edited(counting::erase(kept, bases, cells))
 }
 
 #[no_mangle]
-pub extern "C" fn ykm_traceback(held: YkmRecord, bases: &[u8], cells: &[u16], pairs: &mut [u16]) -> YkmAnswer
+pub extern "C" fn ykm_traceback(
+    held: YkmRecord,
+    bases: &[u8],
+    cells: &[u16],
+    pairs: &mut [u16],
+) -> YkmAnswer
     ensures { λ r. ⌜ Flat flatTraced (Traces (recordIn held) (now (bases .entry)) (now (cells .entry)) (now (pairs .entry)) (now (pairs .exit))) r ⌝ }
 {
-    flat::flat_traced(counting::traceback(flat::record_in(held), bases, cells, pairs))
+    let kept = Record {
+        length: held.length,
+        gap: held.gap,
+    };
+    flat::flat_traced(counting::traceback(kept, bases, cells, pairs))
 }
