@@ -3,3 +3,5 @@ pub mod Accepted
 pub mod Believable
 pub mod MostPairs
 pub mod OneAnswer
+pub mod Good
+pub mod Fresh
