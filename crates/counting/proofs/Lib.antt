@@ -5,3 +5,5 @@ pub mod MostPairs
 pub mod OneAnswer
 pub mod Good
 pub mod Fresh
+pub mod Honest
+pub mod Elsewhere
