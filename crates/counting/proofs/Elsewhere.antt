@@ -1,6 +1,6 @@
 -- What a call leaves alone, accepted or refused: every byte but the edited one, every place of the table that is no cell over the edited base,
 -- and the memory's lengths. So spare memory stands too, through a whole run. Assumes nothing.
-use mathlib.Core.Path.{_≡_, refl, ap, _∙_}
+use mathlib.Core.Path.{_≡_, ap, _∙_}
 use mathlib.Core.Bool.{Bool, false}
 use mathlib.Core.List.{List}
 use Prim.Native.Nat.{ℕ, _≤_}
@@ -22,16 +22,16 @@ use Rattle.counting.proofs.Good.{counts, does, good-fold}
 
 -- a refused call leaves all that the caller holds
 pub elsewhere-refused : (e : Edit) (s s′ : State) → Call e false s s′ → s′ ≡ s
-elsewhere-refused e s s′ c = does s s′ e false c
+elsewhere-refused e s s′ c = does e false s s′ c
 
 pub elsewhere-bytes :
     (e : Edit) (ok : Bool) (s s′ : State) → Call e ok s s′ → (k : ℕ) → (Byte e (s .kept .length) k → ⊥) → view (s′ .bases) k ≡ view (s .bases) k
-elsewhere-bytes e ok s s′ c = does-bytes counts s s′ e ok (does s s′ e ok c)
+elsewhere-bytes e ok s s′ c = does-bytes counts s s′ e ok (does e ok s s′ c)
 
 pub elsewhere-cells :
     (e : Edit) (ok : Bool) (s s′ : State) → Call e ok s s′ → (k : ℕ) →
     ((i j : ℕ) → i ≤ j → Cell e (s .kept .length) i j → k ≡ place i j → ⊥) → view (s′ .cells) k ≡ view (s .cells) k
-elsewhere-cells e ok s s′ c = does-cells counts s s′ e ok (does s s′ e ok c)
+elsewhere-cells e ok s s′ c = does-cells counts s s′ e ok (does e ok s s′ c)
 
 long : (e : Edit) (s s′ : State) (a : Edited) → Meets e s s′ a → (length (s′ .bases) ≡ length (s .bases)) × (length (s′ .cells) ≡ length (s .cells))
 long (replace p x) s s′ (Done r m) c = (ap length (c .2 .byte) ∙ simp length-set, c .2 .long)
@@ -52,7 +52,7 @@ module _
     -- any run of edits from it
     (l : List (Edit × Bool)) (s : State) (run : Run Call l (state r m b t) s) (k : ℕ) where
   pub elsewhere-run-bytes : longest l q ≤ k → view (s .bases) k ≡ view b k
-  elsewhere-run-bytes = run-bytes counts gap Call (λ e ok x y. does x y e ok) k q run (good-fold q gap b₀ b t₀ t o₀ o r m f)
+  elsewhere-run-bytes = run-bytes counts gap Call does k q run (good-fold q gap b₀ b t₀ t o₀ o r m f)
 
   pub elsewhere-run-cells : tri (longest l q) ≤ k → view (s .cells) k ≡ view t k
-  elsewhere-run-cells = run-cells counts gap Call (λ e ok x y. does x y e ok) k q run (good-fold q gap b₀ b t₀ t o₀ o r m f)
+  elsewhere-run-cells = run-cells counts gap Call does k q run (good-fold q gap b₀ b t₀ t o₀ o r m f)

@@ -55,12 +55,13 @@ module _
       let lent : n ≤ length u = omega (arith, trace-clear (s .kept .length) (s .bases) (s .cells) u (d .0) .1) in
       let room : n ≤ length o = foldable q b t o (f .0) .pairs in
       let a = tracedOf (s .bases) (s .cells) gap n u in
-      let c = tracedOf b′ t′ gap n o in
-      (d .2 ∙ sym (g .figure) ∙ same .figure,
-      rw (long, d .1, f .2 .pairs, g .set, size)
-      (take-same n a c (omega (arith, traced-long (s .bases) (s .cells) gap n u lent)) (omega (arith, traced-long b′ t′ gap n o room))
-      (traced-same (s .bases) b′ (s .cells) t′ gap n u o lent room (λ k h. same .bases k (omega (arith, long)))
-      (λ i j h l. same .cells i j h (omega (arith, long))))))
+      let c = tracedOf b′ t′ gap n o in (
+        d .2 ∙ sym (g .figure) ∙ same .figure,
+        rw (long, d .1, f .2 .pairs, g .set, size)
+            (take-same n a c (omega (arith, traced-long (s .bases) (s .cells) gap n u lent)) (omega (arith, traced-long b′ t′ gap n o room))
+            (traced-same (s .bases) b′ (s .cells) t′ gap n u o lent room (λ k h. same .bases k (omega (arith, long)))
+            (λ i j h l. same .cells i j h (omega (arith, long))))),
+      )
 
   as-folded : AsFolded s r m b′ t′ o′
   as-folded = record {
@@ -87,15 +88,16 @@ refolds q gap s g u u′ v d =
     ext-getD 0 (take n b) (map normal q) (length-take-le n b room ∙ sym (length-map q normal))
     (λ k h.
     let l : k < n = omega (arith, length-take-le n b room) in
-    getD-take n b k 0 l ∙ g .table .spelt k (omega arith) ∙ sym (letter-at q k)) in
-    (good-accepted gap q s g b t u room (omega (arith, c .0 .cells, ap tri size)) (omega (arith, c .1)),
-    refl,
-    record {
-      bases = sym (ap (λ (x : List ℕ). x ++ drop n b) (sym front) ∙ take-append-drop n b);
-      cells = record { right = rw size at (g .table .right); fine = rw size at (c .0 .fine); spare = λ k h. refl; long = refl };
-      pairs = rw (g .set, size) at (d .1);
-    },
-    rw size at (d .2))
+    getD-take n b k 0 l ∙ g .table .spelt k (omega arith) ∙ sym (letter-at q k)) in (
+      good-accepted gap q s g b t u room (omega (arith, c .0 .cells, ap tri size)) (omega (arith, c .1)),
+      refl,
+      record {
+        bases = sym (ap (λ (x : List ℕ). x ++ drop n b) (sym front) ∙ take-append-drop n b);
+        cells = record { right = rw size at (g .table .right); fine = rw size at (c .0 .fine); spare = λ k h. refl; long = refl };
+        pairs = rw (g .set, size) at (d .1);
+      },
+      rw size at (d .2),
+    )
 
 -- ---- the theorems
 

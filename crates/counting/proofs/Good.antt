@@ -1,9 +1,8 @@
 -- What every call keeps: the state is that of the sequence which was spelled. Pair counting is a kind of fold that edits follow; each
 -- contract is read as an edit of that kind. Assumes nothing.
-use mathlib.Core.Path.{_≡_, refl, ap, _∙_, sym, subst}
-use mathlib.Core.Bool.{Bool, true, false, true≢false, Bool-discrete}
-use mathlib.Core.Logic.{by-cases}
-use mathlib.Core.List.{List, map, _++_}
+use mathlib.Core.Path.{_≡_, refl, ap, _∙_, sym}
+use mathlib.Core.Bool.{Bool, true, false, true≢false}
+use mathlib.Core.List.{List, map}
 use Prim.Native.Nat.{ℕ, _+_, _-_, _≤_, _<_}
 use native.Mathlib.Omega.{arith}
 use lib.ListN.{length, drop, set, length-set, length-append, length-map, List·getD-append}
@@ -17,7 +16,6 @@ use Rattle.structure.specs.Table.{view}
 use Rattle.sequences.specs.Sequences.{baseDue, basesDue}
 use Rattle.sequences.proofs.Letters.{letter-at}
 use Rattle.cells.specs.Tri.{tri}
-use Rattle.cells.specs.Fill.{at}
 use Rattle.cells.proofs.Places.{tri-mono}
 use Rattle.count_rule.specs.Rule.{nussinov, Half}
 use Rattle.count_rule.proofs.Laws.{nussinov-local, nussinov-keeps}
@@ -143,8 +141,8 @@ module _ (s s′ : State) where
   met (add x) (Refused q r) c h = unmoved (h .0 ∙ c .1) (h .1) (c .2) (c .3)
   met erase (Refused q r) c h = unmoved (h .0 ∙ c .0 .1) (h .1) (c .1) (c .2)
 
-  pub does : (e : Edit) (ok : Bool) → Call e ok s s′ → Does counts e ok s s′
-  does e ok c = rw (c .verdict) (met e (c .answer) (c .meets) (c .holds))
+pub does : (e : Edit) (ok : Bool) (s s′ : State) → Call e ok s s′ → Does counts e ok s s′
+does e ok s s′ c = rw (c .verdict) (met s s′ e (c .answer) (c .meets) (c .holds))
 
 -- ---- from a fold on
 
@@ -196,4 +194,4 @@ module _
   pub good-run : Good counts gap (map normal (spelled l q)) s
   good-run =
       good-letters counts gap (spelled l q) s
-      (good-runs counts gap Call (λ e ok x y. does x y e ok) q run (good-fold q gap b₀ b t₀ t o₀ o r m f))
+      (good-runs counts gap Call does q run (good-fold q gap b₀ b t₀ t o₀ o r m f))

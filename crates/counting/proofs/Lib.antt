@@ -7,3 +7,4 @@ pub mod Good
 pub mod Fresh
 pub mod Honest
 pub mod Elsewhere
+pub mod Spare
