@@ -1,6 +1,6 @@
 -- What a call from a record was found to have: its row of checks, taken apart; that of every such call is exact both ways. Assumes nothing.
-use mathlib.Core.Path.{_≡_}
-use mathlib.Core.Bool.{true, false, not, _||_}
+use mathlib.Core.Path.{_≡_, sym, ap, _∙_}
+use mathlib.Core.Bool.{true, false, not}
 use mathlib.Core.Logic.{_≢_}
 use mathlib.Core.List.{List}
 use Prim.Native.Nat.{ℕ, _+_, _≤_, _<_}
@@ -8,7 +8,9 @@ use native.Mathlib.Omega.{arith}
 use lib.Dec.{ltb, leb, eqb}
 use lib.ListN.{length}
 use borrow.Author.Tests.{ltb-false, le-ltb, leb-false, eqb-false, ne-eqb, not-false}
-use Rattle.refusals.specs.Refusals.{clear, check, then, foldLimit}
+use Rattle.refusals.specs.Refusals.{clear, check, then, told, foldLimit}
+use Rattle.refusals.specs.declared.Verdict.{Verdict}
+use Rattle.refusals.specs.declared.Verdict.the-variants.{Clear}
 use Rattle.refusals.specs.declared.Place.the-variants.{Nowhere, At}
 use Rattle.refusals.proofs.Laws.{check-clear, then-clear, neither}
 use Rattle.bases.specs.Bases.{noBase}
@@ -54,6 +56,10 @@ believable n b t e =
       kept = not-false (allKept b n) (contents .0);
       fine = all-fine (at (view t)) (view b) n (not-false (allHalf (at (view t)) n) (contents .1));
     }
+
+-- as the call that makes the checks says it
+pub passed : {v : Verdict} (n : ℕ) (b t : List ℕ) → told v ≡ keptDue n b t → v ≡ Clear → Believable n b t
+passed n b t e c = believable n b t (sym e ∙ ap told c)
 
 -- and nothing is due of such a record
 pub believed : (n : ℕ) (b t : List ℕ) → Believable n b t → keptDue n b t ≡ clear
