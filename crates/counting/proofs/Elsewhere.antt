@@ -24,16 +24,21 @@ use Rattle.counting.proofs.Good.{counts, does, good-fold}
 pub elsewhere-refused : (e : Edit) (s s′ : State) → Call e false s s′ → s′ ≡ s
 elsewhere-refused e s s′ c = does e false s s′ c
 
+-- the bytes, but the edited one
 pub elsewhere-bytes :
-    (e : Edit) (ok : Bool) (s s′ : State) → Call e ok s s′ → (k : ℕ) → (Byte e (s .kept .length) k → ⊥) → view (s′ .bases) k ≡ view (s .bases) k
+    (e : Edit) (ok : Bool) (s s′ : State) → Call e ok s s′ → (k : ℕ) → (Byte e (s .kept .length) k → ⊥) →
+    view (s′ .bases) k ≡ view (s .bases) k
 elsewhere-bytes e ok s s′ c = does-bytes counts s s′ e ok (does e ok s s′ c)
 
+-- the table, but the cells over the edited base
 pub elsewhere-cells :
     (e : Edit) (ok : Bool) (s s′ : State) → Call e ok s s′ → (k : ℕ) →
     ((i j : ℕ) → i ≤ j → Cell e (s .kept .length) i j → k ≡ place i j → ⊥) → view (s′ .cells) k ≡ view (s .cells) k
 elsewhere-cells e ok s s′ c = does-cells counts s s′ e ok (does e ok s s′ c)
 
-long : (e : Edit) (s s′ : State) (a : Edited) → Meets e s s′ a → (length (s′ .bases) ≡ length (s .bases)) × (length (s′ .cells) ≡ length (s .cells))
+long :
+    (e : Edit) (s s′ : State) (a : Edited) → Meets e s s′ a →
+    (length (s′ .bases) ≡ length (s .bases)) × (length (s′ .cells) ≡ length (s .cells))
 long (replace p x) s s′ (Done r m) c = (ap length (c .2 .byte) ∙ simp length-set, c .2 .long)
 long (replace p x) s s′ (Refused q r) c = (ap length (c .2), ap length (c .3))
 long (add x) s s′ (Done r m) c = (ap length (c .2 .byte) ∙ simp length-set, c .2 .long)
@@ -41,7 +46,8 @@ long (add x) s s′ (Refused q r) c = (ap length (c .2), ap length (c .3))
 long erase s s′ a c = (ap length (c .1), ap length (c .2))
 
 pub elsewhere-long :
-    (e : Edit) (ok : Bool) (s s′ : State) → Call e ok s s′ → (length (s′ .bases) ≡ length (s .bases)) × (length (s′ .cells) ≡ length (s .cells))
+    (e : Edit) (ok : Bool) (s s′ : State) → Call e ok s s′ →
+    (length (s′ .bases) ≡ length (s .bases)) × (length (s′ .cells) ≡ length (s .cells))
 elsewhere-long e ok s s′ c = long e s s′ (c .answer) (c .meets)
 
 -- ---- a run: what is past the longest sequence on the way stands

@@ -7,8 +7,10 @@ use Prim.Native.Nat.{ℕ, _≤_, _<_}
 use native.Mathlib.Omega.{arith}
 use lib.ListN.{length, take, drop, length-map, take-append-drop}
 use lib.Seq.{ext-getD, getD-take, length-take-le}
+use Rattle.refusals.specs.Refusals.{clear}
 use Rattle.bases.specs.Bases.{normal}
 use Rattle.structure.specs.Table.{view}
+use Rattle.structure.specs.Soundness.{tableDue}
 use Rattle.sequences.proofs.Letters.{letter-at}
 use Rattle.cells.specs.Tri.{tri}
 use Rattle.count_trace.specs.Trace.{tracedOf}
@@ -26,7 +28,7 @@ use Rattle.counting.specs.Greatest.{Greatest}
 use Rattle.counting.specs.Histories.{State, state, Call, AsFolded}
 use Rattle.counting.proofs.Accepted.{foldable}
 use Rattle.counting.proofs.Believable.{trace-clear}
-use Rattle.counting.proofs.MostPairs.{most-pairs}
+use Rattle.counting.proofs.MostPairs.{most-pairs, fold-taken}
 use Rattle.counting.proofs.Good.{counts, good-fold, good-accepted, good-run}
 
 -- two lists agree on the first n entries
@@ -113,17 +115,25 @@ pub after-any-run :
 after-any-run q gap b₀ b t₀ t o₀ o r m f l s run b₁ b′ t₁ t′ o₁ o′ r′ m′ fresh =
     as-folded (map normal (spelled l q)) gap s (good-run q gap b₀ b t₀ t o₀ o r m f l s run) b₁ b′ t₁ t′ o₁ o′ r′ m′ fresh
 
-pub after-any-run-most :
+module _
     -- an accepted fold of a sequence q
-    (q : List ℕ) (gap : ℕ) (b₀ b t₀ t o₀ o : List ℕ) (r : Record) (m : ℕ) → Folds q gap b₀ b t₀ t o₀ o (Folded r m) →
+    (q : List ℕ) (gap : ℕ) (b₀ b t₀ t o₀ o : List ℕ) (r : Record) (m : ℕ) (f : Folds q gap b₀ b t₀ t o₀ o (Folded r m))
     -- any run of edits from it, each accepted or refused, each as its own contract permits
-    (l : List (Edit × Bool)) (s : State) → Run Call l (state r m b t) s →
+    (l : List (Edit × Bool)) (s : State) (run : Run Call l (state r m b t) s)
     -- an accepted traceback from what the run left
-    (u u′ : List ℕ) (v : ℕ) → Traces (s .kept) (s .bases) (s .cells) u u′ (Pairs v) →
-    -- its structure is allowed, has so many pairs, and no allowed structure of what was spelled has more
-    Greatest (map normal (spelled l q)) gap (take (s .kept .length) u′) v
-after-any-run-most q gap b₀ b t₀ t o₀ o r m f l s run u u′ v d =
-    let p = map normal (spelled l q) in
-    let g = good-run q gap b₀ b t₀ t o₀ o r m f l s run in
-    let size : s .kept .length ≡ length p = g .table .long in
-    rw size (most-pairs p gap (s .bases) (s .bases) (s .cells) (s .cells) u u′ (recordOf (length p) gap) v (refolds p gap s g u u′ v d))
+    (u u′ : List ℕ) (v : ℕ) (d : Traces (s .kept) (s .bases) (s .cells) u u′ (Pairs v)) where
+  -- its structure is allowed, has so many pairs, and no allowed structure of what was spelled has more
+  pub after-any-run-most : Greatest (map normal (spelled l q)) gap (take (s .kept .length) u′) v
+  after-any-run-most =
+      let p = map normal (spelled l q) in
+      let g = good-run q gap b₀ b t₀ t o₀ o r m f l s run in
+      let size : s .kept .length ≡ length p = g .table .long in
+      rw size (most-pairs p gap (s .bases) (s .bases) (s .cells) (s .cells) u u′ (recordOf (length p) gap) v (refolds p gap s g u u′ v d))
+
+  -- so the calls on structures take it
+  pub after-any-run-taken : tableDue (take (s .kept .length) u′) ≡ clear
+  after-any-run-taken =
+      let p = map normal (spelled l q) in
+      let g = good-run q gap b₀ b t₀ t o₀ o r m f l s run in
+      let size : s .kept .length ≡ length p = g .table .long in
+      rw size (fold-taken p gap (s .bases) (s .bases) (s .cells) (s .cells) u u′ (recordOf (length p) gap) v (refolds p gap s g u u′ v d))

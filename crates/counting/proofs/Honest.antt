@@ -60,7 +60,8 @@ module _
 
   -- and so is a fold of what was spelled, wherever there is room for it
   pub fresh-accepted :
-      (b₁ t₁ o₁ : List ℕ) → length (spelled l q) ≤ length b₁ → tri (length (spelled l q)) ≤ length t₁ → length (spelled l q) ≤ length o₁ →
+      (b₁ t₁ o₁ : List ℕ) → length (spelled l q) ≤ length b₁ → tri (length (spelled l q)) ≤ length t₁ →
+      length (spelled l q) ≤ length o₁ →
       foldDue (map normal (spelled l q)) b₁ t₁ o₁ ≡ clear
   fresh-accepted b₁ t₁ o₁ hb ht ho =
       let p = map normal (spelled l q) in

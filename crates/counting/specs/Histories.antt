@@ -19,6 +19,7 @@ use Rattle.counting.specs.Calls.{Replaces, Adds, Erases, Traces}
 abbrev pub State : Type 0
 State = StateOf Record ℕ (List ℕ)
 
+-- as a fold leaves it
 abbrev pub state : Record → ℕ → List ℕ → List ℕ → State
 state r m b t = record { kept = r; figure = m; bases = b; cells = t }
 

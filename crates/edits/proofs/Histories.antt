@@ -87,7 +87,9 @@ module _ {R G F T A : Type 0} (K : Kind R G F T A) (g : G) (q : List ℕ) where
   good-letters s h =
       record {
         set = h .set;
-        table = kept-letters (K .rule g) (K .loc g) (K .Ok) (K .keeps g) (K .letter) q (K .letter-again) (basesOf s) (K .look (s .cells)) (K .size (s .kept)) (h .table);
+        table =
+            kept-letters (K .rule g) (K .loc g) (K .Ok) (K .keeps g) (K .letter) q (K .letter-again) (basesOf s) (K .look (s .cells))
+            (K .size (s .kept)) (h .table);
         figure = h .figure;
         some = h .some;
         each = λ k l.

@@ -18,7 +18,7 @@ letter-at letter [] k h = absurd (omega arith)
 letter-at letter (x ∷ s) zero h = refl
 letter-at letter (x ∷ s) (suc k) h = letter-at letter s k (omega arith)
 
--- every right table is believable: by induction on a bound s of the span
+-- by induction on a bound s of the span
 fine-below :
     {A : Type 0} (rule : Rule A) (Ok : Bases → ℕ → ℕ → A → Type 0) → Keeps rule Ok → (b : Bases) (c : Cells A) (n : ℕ) → Right rule b c n →
     (s i j : ℕ) → i ≤ j → j < n → j < i + s → Ok b i j (c i j)
@@ -26,12 +26,15 @@ fine-below rule Ok keeps b c n r zero i j h l m = absurd (omega arith)
 fine-below rule Ok keeps b c n r (suc s) i j h l m =
     subst (Ok b i j) (sym (r i j h l)) (keeps b c i j h (λ k o p q u w. fine-below rule Ok keeps b c n r s k o q (omega arith) (omega arith)))
 
+-- every right table is believable
 pub right-fine :
     {A : Type 0} (rule : Rule A) (Ok : Bases → ℕ → ℕ → A → Type 0) → Keeps rule Ok → (b : Bases) (c : Cells A) (n : ℕ) → Right rule b c n →
     Fine (Ok b) c n
 right-fine rule Ok keeps b c n r i j h l = fine-below rule Ok keeps b c n r (suc j) i j h l (omega arith)
 
-module _ {A : Type 0} (rule : Rule A) (loc : Local rule) (Ok : Bases → ℕ → ℕ → A → Type 0) (keeps : Keeps rule Ok) (letter : ℕ → ℕ) (s : List ℕ) where
+module _
+    {A : Type 0} (rule : Rule A) (loc : Local rule) (Ok : Bases → ℕ → ℕ → A → Type 0) (keeps : Keeps rule Ok)
+    (letter : ℕ → ℕ) (s : List ℕ) where
   pub kept-replace :
       (b b′ : Bases) (g g′ : ℕ → A) (n p x : ℕ) → p < n → Put b b′ p (letter x) → Columns rule Ok b′ g g′ p p n →
       Kept rule letter s b g n → Kept rule letter (set s p x) b′ g′ n
@@ -74,7 +77,9 @@ module _ {A : Type 0} (rule : Rule A) (loc : Local rule) (Ok : Bases → ℕ →
       }
 
   -- the letters are a sequence with the same bases and table
-  pub kept-letters : ((x : ℕ) → letter (letter x) ≡ letter x) → (b : Bases) (g : ℕ → A) (n : ℕ) → Kept rule letter s b g n → Kept rule letter (map letter s) b g n
+  pub kept-letters :
+      ((x : ℕ) → letter (letter x) ≡ letter x) → (b : Bases) (g : ℕ → A) (n : ℕ) → Kept rule letter s b g n →
+      Kept rule letter (map letter s) b g n
   kept-letters again b g n r =
       let l = r .long in
       record {

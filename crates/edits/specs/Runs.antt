@@ -18,6 +18,7 @@ pub data Outcome (R F : Type 0) : Type 0 where
   done : R → F → Outcome R F
   refused : R → Outcome R F
 
+-- whether the edit was made
 abbrev pub accepted : {R F : Type 0} → Outcome R F → Bool
 accepted (done r x) = true
 accepted (refused r) = false
@@ -28,7 +29,9 @@ Holds (done r x) s s′ = (s′ .kept ≡ r) × (s′ .figure ≡ x)
 Holds (refused r) s s′ = (s′ .kept ≡ r) × (s′ .figure ≡ s .figure)
 
 -- from s to s′, a call was answered in some way that its contract permits; `ok` says whether the edit was accepted
-pub record Call {R F T A : Type 0} (Meets : Edit → State R F T → State R F T → A → Type 0) (outcome : A → Outcome R F) (e : Edit) (ok : Bool) (s s′ : State R F T) : Type 0 where
+pub record Call
+    {R F T A : Type 0} (Meets : Edit → State R F T → State R F T → A → Type 0) (outcome : A → Outcome R F)
+    (e : Edit) (ok : Bool) (s s′ : State R F T) : Type 0 where
   pub answer : A
   pub meets : Meets e s s′ answer
   pub verdict : ok ≡ accepted (outcome answer)
