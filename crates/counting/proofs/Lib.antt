@@ -3,3 +3,8 @@ pub mod Accepted
 pub mod Believable
 pub mod MostPairs
 pub mod OneAnswer
+pub mod Good
+pub mod Fresh
+pub mod Honest
+pub mod Elsewhere
+pub mod Spare

@@ -2,3 +2,4 @@
 pub mod Checks
 pub mod Calls
 pub mod Greatest
+pub mod Histories

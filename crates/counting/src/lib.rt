@@ -13,6 +13,9 @@ ghost use Rattle.counting.specs.Calls.{Folds, Replaces, Adds, Erases, Tr
 
 mod kept;
 
+// The place that is told of an edit's byte, which is its only one.
+const EDIT_PLACE: usize = 0;
+
 // What a fold leaves to edits: how many bases there are, and the gap.
 pub struct Record {
     pub length: usize,
@@ -102,7 +105,7 @@ pub fn replace(
     }
     let reading = bases::read_base(byte);
     let Reading::Is(base) = reading else {
-        return Edited::Refused(Refusal::NoBase(0), held);
+        return Edited::Refused(Refusal::NoBase(EDIT_PLACE), held);
     };
     bases[position] = bases::letter(base);
     count_fill::columns(bases, cells, position, position, n, held.gap);
@@ -120,7 +123,7 @@ pub fn add(held: Record, bases: &mut [u8], cells: &mut [u16], byte: u8) -> Edite
     }
     let reading = bases::read_base(byte);
     let Reading::Is(base) = reading else {
-        return Edited::Refused(Refusal::NoBase(0), held);
+        return Edited::Refused(Refusal::NoBase(EDIT_PLACE), held);
     };
     if FOLD_LIMIT <= n {
         return Edited::Refused(Refusal::TooLong, held);

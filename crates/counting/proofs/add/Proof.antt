@@ -1,16 +1,15 @@
 -- `counting::add` meets its contract: each refusal is the first that the row finds, and the letter and its column are written as it says. Assumes nothing.
 use mathlib.Core.Path.{refl, ap, _∙_}
+use mathlib.Core.Logic.{⊎-elim}
 use Prim.Native.Nat.{_+_}
 use native.Mathlib.Omega.{arith}
 use lib.ListN.{length, set, length-set}
 use borrow.Author.Needs.{needs}
 use borrow.Author.Tests.{lt-ltb, le-ltb, le-leb, lt-leb}
+use Rattle.refusals.specs.Refusals.{foldLimit}
 use Rattle.bases.proofs.Laws.{read-is, read-letter, read-none}
-use Rattle.structure.specs.Table.{view}
 use Rattle.cells.specs.Tri.{tri}
-use Rattle.cells.specs.Fill.{at}
-use Rattle.cells.proofs.Fills.{else-added}
-use Rattle.count_rule.specs.Rule.{Half}
+use Rattle.cells.proofs.Places.{less-or}
 use Rattle.counting.specs.Checks.{addDue}
 use Rattle.counting.proofs.Believable.{passed}
 use Rattle.counting.proofs.add.Statement.{statement}
@@ -69,7 +68,9 @@ returns-3 c =
     let g = c .before .before in
     let r = g .before .before in
     let k = r .before in
-    (simp (← k .before .before .kept-checks .ensures, k .enum-told .given .1, read-is _ (r .read-base .ensures) (g .reading .given .1), le-leb _ _ (c .if1 .taken)), refl, refl, refl)
+    let s = k .before .before .before .before .before .before .before .args in
+    let long = le-leb foldLimit (s .held .length) (omega arith) in
+    (simp (← k .before .before .kept-checks .ensures, k .enum-told .given .1, read-is _ (r .read-base .ensures) (g .reading .given .1), long), refl, refl, refl)
 
 add-longer : tie.Need-add-longer
 add-longer c = search needs
@@ -120,7 +121,7 @@ columns-requires c κs =
     let k = l .before .before .before .before .before .before in
     let s = k .before .before .before .before .before .before .before .args in
     let e = passed _ _ _ (k .before .before .kept-checks .ensures) (k .enum-told .given .1) in
-    (omega arith, omega (arith, e .short), simp length-set (l .if2 .left), omega (arith, c .before .before .before .before .place .ensures), else-added (Half (view (s .bases .now))) (at (view (s .cells .now))) (s .held .length) (e .fine))
+    (omega arith, omega (arith, e .short), simp length-set (l .if2 .left), omega (arith, c .before .before .before .before .place .ensures), λ i j h l x. e .fine i j h (⊎-elim (λ y. y) (λ y. absurd (omega (arith, x (omega arith)))) (less-or j (s .held .length))))
 
 count-requires : tie.Need-count-requires
 count-requires c κs = search needs

@@ -5,10 +5,6 @@ use lib.ListN.{set, length-set}
 use borrow.Author.Needs.{needs}
 use borrow.Author.Tests.{le-leb, lt-leb}
 use Rattle.bases.proofs.Laws.{read-is, read-letter, read-none}
-use Rattle.structure.specs.Table.{view}
-use Rattle.cells.specs.Fill.{at}
-use Rattle.cells.proofs.Fills.{else-replaced}
-use Rattle.count_rule.specs.Rule.{Half}
 use Rattle.counting.specs.Checks.{replaceDue}
 use Rattle.counting.proofs.Believable.{passed}
 use Rattle.counting.proofs.replace.Statement.{statement}
@@ -41,7 +37,11 @@ same-length-4 c = search needs
 
 returns-2 : tie.Need-returns-2
 unfolding replaceDue
-returns-2 c = let k = c .before in (simp (← k .before .before .kept-checks .ensures, k .enum-told .given .1, le-leb _ _ (c .if1 .taken)), refl, refl, refl)
+returns-2 c =
+    let k = c .before in
+    let s = k .before .before .before .before .before .before .before .args in
+    let outside = le-leb (s .held .length) (s .position) (omega arith) in
+    (simp (← k .before .before .kept-checks .ensures, k .enum-told .given .1, outside), refl, refl, refl)
 
 read-base-requires : tie.Need-read-base-requires
 read-base-requires c κs = search needs
@@ -77,9 +77,8 @@ slice-write-bases c =
 columns-requires : tie.Need-columns-requires
 columns-requires c κs =
     let k = c .before .before .before .before .before .before .before .before in
-    let s = k .before .before .before .before .before .before .before .args in
     let e = passed _ _ _ (k .before .before .kept-checks .ensures) (k .enum-told .given .1) in
-    (omega arith, omega (arith, e .short), simp length-set (e .bases), e .cells, else-replaced (Half (view (s .bases .now))) (at (view (s .cells .now))) (s .held .length) (s .position) (e .fine))
+    (omega arith, omega (arith, e .short), simp length-set (e .bases), e .cells, λ i j h l x. e .fine i j h l)
 
 count-requires : tie.Need-count-requires
 count-requires c κs =
