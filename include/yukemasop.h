@@ -124,7 +124,10 @@ typedef struct {
     size_t gap;
 } ykm_record;
 
-/* The record and the greatest number of pairs, or the refusal. All three numbers are 0 in a refusal. */
+/*
+ * The record and the greatest number of pairs, or the refusal. All three numbers are 0 in a fold's
+ * refusal. A refused edit gives the record back as it came, and count is 0.
+ */
 typedef struct {
     uint32_t number;
     size_t place;
@@ -148,6 +151,57 @@ typedef struct {
 ykm_counted ykm_nussinov(const uint8_t *seq, size_t seq_length, size_t gap,
                          uint8_t *bases, size_t bases_length, uint16_t *cells, size_t cells_length,
                          uint16_t *pairs, size_t pairs_length);
+
+/*
+ * Edits. They are lent what a fold or the edit before it left: the record, the kept letters in the first
+ * n bytes of bases and the first n(n+1)/2 cells, n being the record's length. An edit brings these to
+ * what a fold of the edited sequence writes, keeps the gap, and answers with the new record and count.
+ * It makes no structure: ykm_traceback does, when asked.
+ * Refusals of all four calls, before their own: 11 if n is 0 or above 256; 4 if bases is shorter than n,
+ * or cells than n(n+1)/2; 11 if one of the n bytes isn't A, C, G or U in upper case, or a used cell is
+ * above half its span's length, (j - i + 1)/2 rounded down. Other wrong cells aren't found: from them
+ * each call still writes what docs/RULES.md says, but that equals no fold.
+ *
+ * Replaces the base at position by that of byte. Writes that one byte of bases, and of the used cells
+ * those of the spans that hold position. record: as it came. Its own refusals: 10 if position is not
+ * below n; 2 at place 0 if byte is no base.
+ *
+ *     ykm_replace(record, bases, 10, cells, 55, 8, 'a')      after a fold of GGGAAACCC with gap 3:
+ *                                           writes A to bases[8]; record 9 and 3, count == 2
+ */
+ykm_counted ykm_replace(ykm_record record, uint8_t *bases, size_t bases_length,
+                        uint16_t *cells, size_t cells_length, size_t position, uint8_t byte);
+
+/*
+ * Adds the base of byte behind the last. Writes bases[n] and the n + 1 cells from n(n+1)/2 on. record:
+ * n + 1 and the gap. Its own refusals: 2 at place 0 if byte is no base; 3 if n is 256; 4 if bases or
+ * cells has no room for n + 1 bases.
+ *
+ *     ykm_add(record, bases, 10, cells, 55, 'C')      after that replace:
+ *                                           writes C to bases[9]; record 10 and 3, count == 3
+ */
+ykm_counted ykm_add(ykm_record record, uint8_t *bases, size_t bases_length,
+                    uint16_t *cells, size_t cells_length, uint8_t byte);
+
+/*
+ * Erases the last base. Writes nothing: the byte and the cells of the lost end stay as spare memory.
+ * record: n - 1 and the gap. Its own refusal: 1 if n is 1.
+ *
+ *     ykm_erase(record, bases, 10, cells, 55)      after that add: record 9 and 3, count == 2
+ */
+ykm_counted ykm_erase(ykm_record record, const uint8_t *bases, size_t bases_length,
+                      const uint16_t *cells, size_t cells_length);
+
+/*
+ * The structure that the cells lead to, the ties decided as in the fold: it writes it to the first n
+ * entries of pairs, which need no clearing. value: the number of pairs. Its own refusal: 4 if pairs is
+ * shorter than n.
+ *
+ *     ykm_traceback(record, bases, 10, cells, 55, pairs, 9)      after that erase:
+ *                                           writes .((...)). as a table; value == 2
+ */
+ykm_answer ykm_traceback(ykm_record record, const uint8_t *bases, size_t bases_length,
+                         const uint16_t *cells, size_t cells_length, uint16_t *pairs, size_t pairs_length);
 
 #ifdef __cplusplus
 }

@@ -52,18 +52,19 @@ static void say(uint64_t value) {
 
 /* A lent buffer, with guards behind it: what a call writes there is a fault. */
 enum { GUARD = 16, ROOM = 1 << 20, BUFFERS = 6 };
-static _Alignas(16) uint8_t memory[BUFFERS][ROOM + GUARD];
+static _Alignas(16) uint8_t memory[BUFFERS][ROOM + GUARD], copies[BUFFERS][ROOM];
 
 typedef struct {
     void *at;
+    const uint8_t *copy;
     size_t count, bytes;
 } buffer;
 
 static buffer lend(int which, size_t width) {
-    buffer b = {memory[which], number(), 0};
+    buffer b = {memory[which], copies[which], number(), 0};
     if (b.count > ROOM / width) _exit(5);
     b.bytes = b.count * width;
-    for (size_t k = 0; k < b.bytes; k++) memory[which][k] = take();
+    for (size_t k = 0; k < b.bytes; k++) memory[which][k] = copies[which][k] = take();
     for (size_t k = 0; k < GUARD; k++) memory[which][b.bytes + k] = 0xA5;
     return b;
 }
@@ -74,6 +75,13 @@ static void back(buffer b) {
     for (size_t k = 0; k < b.bytes; k++) give(bytes[k]);
 }
 
+/* A buffer that was lent to be read only: the Rust crate doesn't ask for it back, so it is held to that here. */
+static void left(buffer b) {
+    const uint8_t *bytes = b.at;
+    for (size_t k = 0; k < GUARD; k++) if (bytes[b.bytes + k] != 0xA5) _exit(6);
+    for (size_t k = 0; k < b.bytes; k++) if (bytes[k] != b.copy[k]) _exit(8);
+}
+
 /* What the header says is 0 in a refusal is held to it here, since the Rust crate drops it. */
 static void tell(ykm_answer answer) {
     if (answer.number != 0 && answer.value != 0) _exit(7);
@@ -82,13 +90,29 @@ static void tell(ykm_answer answer) {
     say(answer.value);
 }
 
-static void tell_counted(ykm_counted counted) {
-    if (counted.number != 0 && (counted.record.length | counted.record.gap | counted.count) != 0) _exit(7);
+static void say_counted(ykm_counted counted) {
     say(counted.number);
     say(counted.place);
     say(counted.record.length);
     say(counted.record.gap);
     say(counted.count);
+}
+
+static void tell_counted(ykm_counted counted) {
+    if (counted.number != 0 && (counted.record.length | counted.record.gap | counted.count) != 0) _exit(7);
+    say_counted(counted);
+}
+
+/* A refused edit's record is held to be the one that came, since the Rust crate drops that too. */
+static void tell_edited(ykm_record came, ykm_counted edited) {
+    bool same = edited.record.length == came.length && edited.record.gap == came.gap;
+    if (edited.number != 0 && (!same || edited.count != 0)) _exit(7);
+    say_counted(edited);
+}
+
+static ykm_record record(void) {
+    size_t length = number(), gap = number();
+    return (ykm_record){length, gap};
 }
 
 int main(void) {
@@ -166,6 +190,41 @@ int main(void) {
                                       cells.at, cells.count, pairs.at, pairs.count));
             back(bases);
             back(cells);
+            back(pairs);
+            break;
+        }
+        case 13: {
+            ykm_record came = record();
+            buffer bases = lend(0, 1), cells = lend(1, 2);
+            size_t position = number();
+            uint8_t byte = (uint8_t)number();
+            tell_edited(came, ykm_replace(came, bases.at, bases.count, cells.at, cells.count, position, byte));
+            back(bases);
+            back(cells);
+            break;
+        }
+        case 14: {
+            ykm_record came = record();
+            buffer bases = lend(0, 1), cells = lend(1, 2);
+            tell_edited(came, ykm_add(came, bases.at, bases.count, cells.at, cells.count, (uint8_t)number()));
+            back(bases);
+            back(cells);
+            break;
+        }
+        case 15: {
+            ykm_record came = record();
+            buffer bases = lend(0, 1), cells = lend(1, 2);
+            tell_edited(came, ykm_erase(came, bases.at, bases.count, cells.at, cells.count));
+            left(bases);
+            left(cells);
+            break;
+        }
+        case 16: {
+            ykm_record came = record();
+            buffer bases = lend(0, 1), cells = lend(1, 2), pairs = lend(2, 2);
+            tell(ykm_traceback(came, bases.at, bases.count, cells.at, cells.count, pairs.at, pairs.count));
+            left(bases);
+            left(cells);
             back(pairs);
             break;
         }

@@ -82,6 +82,10 @@ impl Call {
         self
     }
 
+    fn record(self, record: Record) -> Call {
+        self.number(record.length).number(record.gap)
+    }
+
     /// A lent buffer.
     unsafe fn lent<T: Element>(self, at: *const T, count: usize) -> Call {
         let mut call = self.number(count);
@@ -126,6 +130,18 @@ impl Reply {
             number: self.number() as u32,
             place: self.number(),
             value: self.number(),
+        }
+    }
+
+    fn counted(&mut self) -> Counted {
+        Counted {
+            number: self.number() as u32,
+            place: self.number(),
+            record: Record {
+                length: self.number(),
+                gap: self.number(),
+            },
+            count: self.number(),
         }
     }
 
@@ -241,17 +257,86 @@ pub unsafe fn ykm_nussinov(
         .lent(cells, cells_room)
         .lent(pairs, pairs_room)
         .make();
-    let counted = Counted {
-        number: reply.number() as u32,
-        place: reply.number(),
-        record: Record {
-            length: reply.number(),
-            gap: reply.number(),
-        },
-        count: reply.number(),
-    };
+    let counted = reply.counted();
     reply.back(bases, bases_room);
     reply.back(cells, cells_room);
     reply.back(pairs, pairs_room);
     counted
+}
+
+pub unsafe fn ykm_replace(
+    record: Record,
+    bases: *mut u8,
+    bases_room: usize,
+    cells: *mut u16,
+    cells_room: usize,
+    position: usize,
+    byte: u8,
+) -> Counted {
+    let mut reply = Call::new(13)
+        .record(record)
+        .lent(bases, bases_room)
+        .lent(cells, cells_room)
+        .number(position)
+        .number(byte.into())
+        .make();
+    let counted = reply.counted();
+    reply.back(bases, bases_room);
+    reply.back(cells, cells_room);
+    counted
+}
+
+pub unsafe fn ykm_add(
+    record: Record,
+    bases: *mut u8,
+    bases_room: usize,
+    cells: *mut u16,
+    cells_room: usize,
+    byte: u8,
+) -> Counted {
+    let mut reply = Call::new(14)
+        .record(record)
+        .lent(bases, bases_room)
+        .lent(cells, cells_room)
+        .number(byte.into())
+        .make();
+    let counted = reply.counted();
+    reply.back(bases, bases_room);
+    reply.back(cells, cells_room);
+    counted
+}
+
+pub unsafe fn ykm_erase(
+    record: Record,
+    bases: *const u8,
+    bases_room: usize,
+    cells: *const u16,
+    cells_room: usize,
+) -> Counted {
+    Call::new(15)
+        .record(record)
+        .lent(bases, bases_room)
+        .lent(cells, cells_room)
+        .make()
+        .counted()
+}
+
+pub unsafe fn ykm_traceback(
+    record: Record,
+    bases: *const u8,
+    bases_room: usize,
+    cells: *const u16,
+    cells_room: usize,
+    pairs: *mut u16,
+    pairs_room: usize,
+) -> Answer {
+    let mut reply = Call::new(16)
+        .record(record)
+        .lent(bases, bases_room)
+        .lent(cells, cells_room)
+        .lent(pairs, pairs_room)
+        .make();
+    let answer = reply.answer();
+    reply.back(pairs, pairs_room);
+    answer
 }

@@ -21,6 +21,7 @@ pub struct Answer {
 }
 
 #[repr(C)]
+#[derive(Clone, Copy)]
 pub struct Record {
     pub length: usize,
     pub gap: usize,
@@ -84,6 +85,39 @@ extern "C" {
         pairs: *mut u16,
         pairs_length: usize,
     ) -> Counted;
+    pub fn ykm_replace(
+        record: Record,
+        bases: *mut u8,
+        bases_length: usize,
+        cells: *mut u16,
+        cells_length: usize,
+        position: usize,
+        byte: u8,
+    ) -> Counted;
+    pub fn ykm_add(
+        record: Record,
+        bases: *mut u8,
+        bases_length: usize,
+        cells: *mut u16,
+        cells_length: usize,
+        byte: u8,
+    ) -> Counted;
+    pub fn ykm_erase(
+        record: Record,
+        bases: *const u8,
+        bases_length: usize,
+        cells: *const u16,
+        cells_length: usize,
+    ) -> Counted;
+    pub fn ykm_traceback(
+        record: Record,
+        bases: *const u8,
+        bases_length: usize,
+        cells: *const u16,
+        cells_length: usize,
+        pairs: *mut u16,
+        pairs_length: usize,
+    ) -> Answer;
 }
 
 #[cfg(feature = "bridge")]

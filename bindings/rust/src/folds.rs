@@ -13,8 +13,25 @@
 //! assert_eq!(&bases, b"GGGGCCCC");
 //! assert_eq!(pairs, [UNPAIRED, 7, 6, UNPAIRED, UNPAIRED, UNPAIRED, 2, 1]);
 //! ```
+//!
+//! Edits are lent the record, the kept letters and the cells that a fold or the edit before left. They
+//! bring the two buffers to what a fold of the edited sequence writes, keep the gap, and give the new
+//! record and count; the structure is asked for by [`traceback`]. An edit that is refused gives no record,
+//! and the one that it was lent still holds. [`Editor`](crate::editor::Editor) does all this by itself.
+//!
+//! ```
+//! use yukemasop::folds;
+//!
+//! let (mut bases, mut cells, mut pairs) = ([0; 10], [0; folds::cells_of(10)], [0; 10]);
+//! let (record, _) = folds::nussinov(b"GGGAAACCC", 3, &mut bases, &mut cells, &mut pairs).unwrap();
+//! let (record, count) = folds::replace(record, &mut bases, &mut cells, 8, b'a').unwrap();
+//! assert_eq!((record.length, count), (9, 2));
+//! let (record, count) = folds::add(record, &mut bases, &mut cells, b'C').unwrap();
+//! assert_eq!((record.length, count), (10, 3));
+//! assert_eq!(&bases, b"GGGAAACCAC");
+//! ```
 
-use crate::{ffi, Refusal, Result};
+use crate::{ffi, tables, Refusal, Result};
 
 /// The most bases of a sequence to fold.
 pub(crate) const LIMIT: usize = 256;
@@ -26,6 +43,19 @@ pub struct Record {
     pub length: usize,
     /// What `j - i` of each pair is greater than.
     pub gap: usize,
+}
+
+impl Record {
+    fn lent(self) -> ffi::Record {
+        let Record { length, gap } = self;
+        ffi::Record { length, gap }
+    }
+}
+
+fn judged(counted: ffi::Counted) -> Result<(Record, usize)> {
+    Refusal::judge(counted.number, counted.place)?;
+    let ffi::Record { length, gap } = counted.record;
+    Ok((Record { length, gap }, counted.count))
 }
 
 /// The number of cells that `n` bases use, for any `n` that can be folded.
@@ -60,7 +90,7 @@ pub fn nussinov(
     pairs: &mut [u16],
 ) -> Result<(Record, usize)> {
     // SAFETY: the four slices are whole, and the borrow checker keeps them apart.
-    let counted = unsafe {
+    judged(unsafe {
         ffi::ykm_nussinov(
             seq.as_ptr(),
             seq.len(),
@@ -72,8 +102,143 @@ pub fn nussinov(
             pairs.as_mut_ptr(),
             pairs.len(),
         )
-    };
-    Refusal::judge(counted.number, counted.place)?;
-    let ffi::Record { length, gap } = counted.record;
-    Ok((Record { length, gap }, counted.count))
+    })
+}
+
+/// Replaces the base at `position` by that of `byte`; gives the record and the count. Of the used cells it
+/// writes those of the spans that hold the position.
+///
+/// # Errors
+///
+/// 11 if the record's length is 0 or above 256; 4 if `bases` or `cells` is too short for it; 11 if a kept
+/// letter isn't A, C, G or U in upper case, or a used cell is above half its span's length; 10 if `position`
+/// is outside; 2 at place 0 if `byte` is no base.
+///
+/// ```
+/// use yukemasop::folds;
+///
+/// let (mut bases, mut cells) = ([0; 2], [0; folds::cells_of(2)]);
+/// let (record, count) = folds::nussinov(b"GA", 0, &mut bases, &mut cells, &mut [0; 2]).unwrap();
+/// assert_eq!(count, 0);
+/// assert_eq!(folds::replace(record, &mut bases, &mut cells, 1, b't'), Ok((record, 1)));
+/// assert_eq!(&bases, b"GU");
+/// let refusal = folds::replace(record, &mut bases, &mut cells, 2, b'A').unwrap_err();
+/// assert_eq!(refusal.to_string(), "refused 10");
+/// ```
+pub fn replace(
+    record: Record,
+    bases: &mut [u8],
+    cells: &mut [u16],
+    position: usize,
+    byte: u8,
+) -> Result<(Record, usize)> {
+    // SAFETY: both slices are whole, and the borrow checker keeps them apart.
+    judged(unsafe {
+        ffi::ykm_replace(
+            record.lent(),
+            bases.as_mut_ptr(),
+            bases.len(),
+            cells.as_mut_ptr(),
+            cells.len(),
+            position,
+            byte,
+        )
+    })
+}
+
+/// Adds the base of `byte` behind the last; gives the record and the count. It writes the new end's letter
+/// and cells.
+///
+/// # Errors
+///
+/// 11, 4, 11 as [`replace`]; 2 at place 0 if `byte` is no base; 3 if there are 256 bases; 4 if `bases` or
+/// `cells` has no room for one more.
+///
+/// ```
+/// use yukemasop::folds;
+///
+/// let (mut bases, mut cells) = ([0; 2], [0; folds::cells_of(2)]);
+/// let (record, _) = folds::nussinov(b"G", 0, &mut bases, &mut cells, &mut [0]).unwrap();
+/// let (record, count) = folds::add(record, &mut bases, &mut cells, b'c').unwrap();
+/// assert_eq!((record.length, count), (2, 1));
+/// let refusal = folds::add(record, &mut bases, &mut cells, b'c').unwrap_err();
+/// assert_eq!(refusal.to_string(), "refused 4");
+/// ```
+pub fn add(
+    record: Record,
+    bases: &mut [u8],
+    cells: &mut [u16],
+    byte: u8,
+) -> Result<(Record, usize)> {
+    // SAFETY: both slices are whole, and the borrow checker keeps them apart.
+    judged(unsafe {
+        ffi::ykm_add(
+            record.lent(),
+            bases.as_mut_ptr(),
+            bases.len(),
+            cells.as_mut_ptr(),
+            cells.len(),
+            byte,
+        )
+    })
+}
+
+/// Erases the last base; gives the record and the count. It writes nothing: the lost end stays as spare
+/// memory.
+///
+/// # Errors
+///
+/// 11, 4, 11 as [`replace`]; 1 if there is one base.
+///
+/// ```
+/// use yukemasop::folds;
+///
+/// let (mut bases, mut cells) = ([0; 2], [0; folds::cells_of(2)]);
+/// let (record, _) = folds::nussinov(b"GC", 0, &mut bases, &mut cells, &mut [0; 2]).unwrap();
+/// let (record, count) = folds::erase(record, &bases, &cells).unwrap();
+/// assert_eq!((record.length, count), (1, 0));
+/// assert_eq!(folds::erase(record, &bases, &cells).unwrap_err().to_string(), "refused 1");
+/// ```
+pub fn erase(record: Record, bases: &[u8], cells: &[u16]) -> Result<(Record, usize)> {
+    // SAFETY: both slices are whole, and neither is written to.
+    judged(unsafe {
+        ffi::ykm_erase(
+            record.lent(),
+            bases.as_ptr(),
+            bases.len(),
+            cells.as_ptr(),
+            cells.len(),
+        )
+    })
+}
+
+/// The structure that the cells lead to, the fold's where they are as a fold or an edit left them; gives the
+/// number of pairs.
+///
+/// # Errors
+///
+/// 11, 4, 11 as [`replace`]; 4 if `pairs` is shorter than the sequence.
+///
+/// ```
+/// use yukemasop::{folds, tables::UNPAIRED};
+///
+/// let (mut bases, mut cells, mut pairs) = ([0; 3], [0; folds::cells_of(3)], [0; 3]);
+/// let (record, _) = folds::nussinov(b"GAC", 0, &mut bases, &mut cells, &mut pairs).unwrap();
+/// let (record, _) = folds::replace(record, &mut bases, &mut cells, 1, b'C').unwrap();
+/// assert_eq!(folds::traceback(record, &bases, &cells, &mut pairs), Ok(1));
+/// assert_eq!(pairs, [2, UNPAIRED, 0]);
+/// ```
+pub fn traceback(record: Record, bases: &[u8], cells: &[u16], pairs: &mut [u16]) -> Result<usize> {
+    // SAFETY: the three slices are whole, and only the last is written to.
+    tables::judged(unsafe {
+        ffi::ykm_traceback(
+            record.lent(),
+            bases.as_ptr(),
+            bases.len(),
+            cells.as_ptr(),
+            cells.len(),
+            pairs.as_mut_ptr(),
+            pairs.len(),
+        )
+    })
 }

@@ -13,6 +13,7 @@ mod bases;
 #[cfg(feature = "bridge")]
 mod bridge;
 mod counting;
+pub mod editor;
 mod ffi;
 pub mod folds;
 mod refusal;

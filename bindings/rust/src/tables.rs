@@ -17,7 +17,7 @@ use crate::{ffi, Refusal, Result};
 /// The entry of an unpaired position.
 pub const UNPAIRED: u16 = 65535;
 
-fn judged(answer: ffi::Answer) -> Result<usize> {
+pub(crate) fn judged(answer: ffi::Answer) -> Result<usize> {
     Refusal::judge(answer.number, answer.place)?;
     Ok(answer.value)
 }

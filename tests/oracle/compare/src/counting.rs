@@ -10,7 +10,7 @@ use yukemasop::tables::UNPAIRED;
 use yukemasop::Refusal;
 
 /// Gaps around the usual one, around the longest strand, and such that 16 or 32 bits or a sum lose.
-const GAPS: [usize; 12] = [
+pub const GAPS: [usize; 12] = [
     0,
     1,
     2,
@@ -26,7 +26,7 @@ const GAPS: [usize; 12] = [
 ];
 
 /// Bytes that are no base: letters, signs beside the letters, and bases with the highest bit set.
-const NO_BASES: [u8; 12] = *b"NnIX.@` \0\xC1\xF5\xFF";
+pub const NO_BASES: [u8; 12] = *b"NnIX.@` \0\xC1\xF5\xFF";
 
 pub fn compare(random: &mut Random, size: usize) -> Found {
     let mut calls = Calls::default();
@@ -96,14 +96,18 @@ impl Lent {
 }
 
 /// Memory of one length, by its first difference: a whole fold table in a message would hide the place.
-fn alike<T: PartialEq + std::fmt::Debug>(what: &str, ours: &[T], due: &[T]) -> Result<(), String> {
+pub fn alike<T: PartialEq + std::fmt::Debug>(
+    what: &str,
+    ours: &[T],
+    due: &[T],
+) -> Result<(), String> {
     match (0..due.len()).find(|&k| ours[k] != due[k]) {
         Some(k) => same(&format!("place {k} of the {what}"), &ours[k], &due[k]),
         None => Ok(()),
     }
 }
 
-fn shown(seq: &[u8], gap: usize) -> String {
+pub fn shown(seq: &[u8], gap: usize) -> String {
     format!("{:?} with gap {gap}", String::from_utf8_lossy(seq))
 }
 
@@ -301,13 +305,13 @@ impl Calls {
     }
 }
 
-fn the_originals(seq: &[u8], gap: usize) -> Result<theirs::NussinovResult, String> {
+pub fn the_originals(seq: &[u8], gap: usize) -> Result<theirs::NussinovResult, String> {
     theirs::nussinov(seq, gap)
         .map_err(|error| format!("the original on {}: {error:?}", shown(seq, gap)))
 }
 
 /// A strand of any temper and spelling.
-fn spelled(random: &mut Random, length: usize) -> Vec<u8> {
+pub fn spelled(random: &mut Random, length: usize) -> Vec<u8> {
     let temper = random.pick(&Temper::ALL);
     let plain = strand(random, temper, length);
     let spelling = random.pick(&Spelling::ALL);

@@ -2,9 +2,12 @@
 //!
 //! `tests/compare` builds and runs it. It ends at the first difference, with the input that shows
 //! it and status 1. SIZE is the number of rounds of random cases; what is exhaustive is run in full.
+//! `compare soak SEED EDITS`, which `tests/soak` runs, has histories of edits alone.
 
 mod bases;
 mod counting;
+mod edits;
+mod histories;
 mod slow;
 mod structures;
 
@@ -21,30 +24,50 @@ fn same<T: PartialEq + std::fmt::Debug>(what: &str, ours: T, due: T) -> Result<(
     Err(format!("{what}: Yukemasop {ours:?}, due {due:?}"))
 }
 
+/// Prints what a part found; whether there was no difference.
+fn tell(found: Found) -> bool {
+    match &found {
+        Ok(compared) => println!("{compared}: no difference"),
+        Err(difference) => println!("a difference: {difference}"),
+    }
+    found.is_ok()
+}
+
+fn soak(random: &mut Random, edits: usize) -> Found {
+    let progress = |tally: &histories::Tally| {
+        if tally.edits().is_multiple_of(100_000) {
+            println!("{} edits so far, {} refused", tally.edits(), tally.refused);
+        }
+    };
+    histories::compare(random, edits, progress).map(|tally| tally.to_string())
+}
+
 fn main() -> ExitCode {
     let words: Vec<String> = std::env::args().skip(1).collect();
-    let numbers: Result<Vec<u64>, _> = words.iter().map(|word| word.parse()).collect();
-    let Ok(numbers) = numbers else {
-        eprintln!("compare takes a seed and a size, both numbers.");
-        return ExitCode::from(2);
+    let (soaking, words) = match words.split_first() {
+        Some((word, others)) if word == "soak" => (true, others),
+        _ => (false, &words[..]),
     };
+    let numbers: Result<Vec<u64>, _> = words.iter().map(|word| word.parse()).collect();
+    let numbers = numbers.unwrap_or_default();
+    if numbers.len() < words.len() || soaking && numbers.len() != 2 {
+        eprintln!("compare takes a seed and a size, or `soak`, a seed and a number of edits.");
+        return ExitCode::from(2);
+    }
     let seed = numbers.first().copied().unwrap_or(1);
     let size = numbers.get(1).copied().unwrap_or(1000) as usize;
     let mut random = Random::new(seed);
+    if soaking {
+        println!("seed {seed}, {size} edits");
+        return ExitCode::from(u8::from(!tell(soak(&mut random, size))));
+    }
     println!("seed {seed}, size {size}");
-    let parts: [fn(&mut Random, usize) -> Found; 3] = [
+    let parts: [fn(&mut Random, usize) -> Found; 4] = [
         |_, _| bases::compare(),
         structures::compare,
         counting::compare,
+        edits::compare,
     ];
-    for part in parts {
-        match part(&mut random, size) {
-            Ok(compared) => println!("{compared}: no difference"),
-            Err(difference) => {
-                println!("a difference: {difference}");
-                return ExitCode::FAILURE;
-            }
-        }
-    }
-    ExitCode::SUCCESS
+    let passed = parts.iter().all(|part| tell(part(&mut random, size)));
+    ExitCode::from(u8::from(!passed))
 }
