@@ -194,8 +194,9 @@ ykm_counted ykm_erase(ykm_record record, const uint8_t *bases, size_t bases_leng
 
 /*
  * The structure that the cells lead to, the ties decided as in the fold: it writes it to the first n
- * entries of pairs, which need no clearing. value: the number of pairs. Its own refusal: 4 if pairs is
- * shorter than n.
+ * entries of pairs, which need no clearing. value: the count, the cell of the whole span, which is the
+ * number of pairs written wherever the cells are as a fold or an edit left them. Its own refusal: 4 if
+ * pairs is shorter than n.
  *
  *     ykm_traceback(record, bases, 10, cells, 55, pairs, 9)      after that erase:
  *                                           writes .((...)). as a table; value == 2

@@ -213,7 +213,7 @@ pub fn erase(record: Record, bases: &[u8], cells: &[u16]) -> Result<(Record, usi
 }
 
 /// The structure that the cells lead to, the fold's where they are as a fold or an edit left them; gives the
-/// number of pairs.
+/// count, the cell of the whole span, which is then the number of its pairs.
 ///
 /// # Errors
 ///

@@ -283,7 +283,7 @@ impl Held {
         self.cells[place(i, j)]
     }
 
-    /// Writes the structure that the choices lead to and gives the number of its pairs, or the refusal.
+    /// Writes the structure that the choices lead to and gives the count, which is the cell of the whole span, or the refusal.
     pub fn traceback(&self, table: &mut [u16]) -> Result<usize, Refusal> {
         self.believed()?;
         let n = self.record.length;
@@ -318,7 +318,7 @@ impl Held {
                 waiting.push((i, j));
             }
         }
-        Ok(pairs(&table[..n]).len())
+        Ok(self.cell(0, n - 1).into())
     }
 }
 

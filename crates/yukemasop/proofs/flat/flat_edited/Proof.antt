@@ -1,41 +1,29 @@
+-- `yukemasop::flat::flat_edited` meets its contract: an edit done and one refused are the structs that `flatEdited` makes. Assumes nothing.
 use borrow.Author.Needs.{needs}
 use Rattle.yukemasop.proofs.flat.flat_edited.Statement.{statement}
 use Rattle.yukemasop.proofs.flat.flat_edited.Tie as tie
-use Rattle.yukemasop.proofs.flat.flat_edited.Reads as reads
-use Rattle.yukemasop.proofs.flat.flat_edited.Lts as lts
-use Rattle.refusals.proofs.number_of.Reads as number-of-reads
-use Rattle.refusals.proofs.place_of.Reads as place-of-reads
-use Rattle.yukemasop.proofs.flat.flat_place.Reads as flat-place-reads
 
--- src/flat.rt:130:22
 enum-known-edited : tie.Need-enum-known-edited
 enum-known-edited c = search needs
 
--- src/flat.rt:132:20
 flat-place-requires : tie.Need-flat-place-requires
 flat-place-requires c κs = search needs
 
--- src/flat.rt:139:25
 enum-known-edited-2 : tie.Need-enum-known-edited-2
 enum-known-edited-2 c = search needs
 
--- src/flat.rt:140:21
 number-of-requires : tie.Need-number-of-requires
 number-of-requires c κs = search needs
 
--- src/flat.rt:141:31
 place-of-requires : tie.Need-place-of-requires
 place-of-requires c κs = search needs
 
--- src/flat.rt:141:20
 flat-place-requires-2 : tie.Need-flat-place-requires-2
 flat-place-requires-2 c κs = search needs
 
--- src/flat.rt:126:1
 returns : tie.Need-returns
 returns c = simp (c .flat-place .ensures, c .before .before .edited .given .1)
 
--- src/flat.rt:126:1
 returns-2 : tie.Need-returns-2
 returns-2 c = simp (c .before .before .number-of .ensures, c .flat-place2 .ensures, c .before .place-of .ensures, c .before .before .before .before .edited2 .given .1)
 

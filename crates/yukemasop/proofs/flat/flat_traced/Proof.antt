@@ -1,34 +1,25 @@
+-- `yukemasop::flat::flat_traced` meets its contract: each case is the one that `flatTraced` reads. Assumes nothing.
 use Rattle.yukemasop.specs.Flat.{flatTraced}
 use mathlib.Core.Path.{sym, ap, _∙_}
 use borrow.Author.Needs.{needs}
 use Rattle.yukemasop.proofs.flat.flat_traced.Statement.{statement}
 use Rattle.yukemasop.proofs.flat.flat_traced.Tie as tie
-use Rattle.yukemasop.proofs.flat.flat_traced.Reads as reads
-use Rattle.yukemasop.proofs.flat.flat_traced.Lts as lts
-use Rattle.yukemasop.proofs.flat.flat_number.Reads as flat-number-reads
-use Rattle.yukemasop.proofs.flat.flat_refusal.Reads as flat-refusal-reads
 
--- src/flat.rt:155:23
 enum-known-traced : tie.Need-enum-known-traced
 enum-known-traced c = search needs
 
--- src/flat.rt:155:33
 flat-number-requires : tie.Need-flat-number-requires
 flat-number-requires c κs = search needs
 
--- src/flat.rt:156:25
 enum-known-traced-2 : tie.Need-enum-known-traced-2
 enum-known-traced-2 c = search needs
 
--- src/flat.rt:156:37
 flat-refusal-requires : tie.Need-flat-refusal-requires
 flat-refusal-requires c κs = search needs
 
--- src/flat.rt:151:1
 returns : tie.Need-returns
 returns c = c .flat-number .ensures ∙ sym (ap flatTraced (c .before .before .traced .given .1))
 
--- src/flat.rt:151:1
 returns-2 : tie.Need-returns-2
 returns-2 c = c .flat-refusal .ensures ∙ sym (ap flatTraced (c .before .before .traced2 .given .1))
 
