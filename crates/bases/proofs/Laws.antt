@@ -245,3 +245,23 @@ not-and false q e = (refl, e)
 pub kept-base : (x : ℕ) → isKept x ≡ true → (noBase x ≡ false) × (normal x ≡ x)
 unfolding isKept
 kept-base x h = let e = not-and (noBase x) (eqb (normal x) x) h in (e .0, eqb-true (normal x) x (e .1))
+
+-- the letter of a base is one
+pub normal-base : (x : ℕ) → noBase x ≡ false → noBase (normal x) ≡ false
+normal-base x h = kept-base (normal x) (normal-kept x h) .0
+
+nothing-kept : (r : Spelt) → isRefused r ≡ true → letterIn r ≡ 0
+nothing-kept (kept y) e = absurd (true≢false (sym e))
+nothing-kept (refused num) e = refl
+
+no-letter : (x : ℕ) → noBase x ≡ true → normal x ≡ 0
+unfolding noBase normal
+no-letter x e = nothing-kept (reads x) e
+
+-- and is its own letter; of a byte that is no base nothing is kept, and again nothing
+pub normal-again : (x : ℕ) → normal (normal x) ≡ normal x
+normal-again x = go (noBase x) refl
+  where
+    go : (p : Bool) → noBase x ≡ p → normal (normal x) ≡ normal x
+    go true e = let z = no-letter x e in rw z normal-zero
+    go false e = kept-base (normal x) (normal-kept x e) .1

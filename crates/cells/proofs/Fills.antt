@@ -208,3 +208,17 @@ module _ {A : Type 0} (rule : Rule A) (loc : Local rule) (Ok : Bases → ℕ →
   columns-one g₀ g g′ first top n r r′ k =
       let c = cell-at k in
       rw (c .here) (same-cells g₀ g g′ first top n r r′ (suc (c .column)) (c .row) (c .column) (c .inside) (omega arith))
+
+-- by induction on a bound s of the span
+fine-below :
+    {A : Type 0} (rule : Rule A) (Ok : Bases → ℕ → ℕ → A → Type 0) → Keeps rule Ok → (b : Bases) (c : Cells A) (n : ℕ) → Right rule b c n →
+    (s i j : ℕ) → i ≤ j → j < n → j < i + s → Ok b i j (c i j)
+fine-below rule Ok keeps b c n r zero i j h l m = absurd (omega arith)
+fine-below rule Ok keeps b c n r (suc s) i j h l m =
+    subst (Ok b i j) (sym (r i j h l)) (keeps b c i j h (λ k o p q u w. fine-below rule Ok keeps b c n r s k o q (omega arith) (omega arith)))
+
+-- every right table is believable
+pub right-fine :
+    {A : Type 0} (rule : Rule A) (Ok : Bases → ℕ → ℕ → A → Type 0) → Keeps rule Ok → (b : Bases) (c : Cells A) (n : ℕ) → Right rule b c n →
+    Fine (Ok b) c n
+right-fine rule Ok keeps b c n r i j h l = fine-below rule Ok keeps b c n r (suc j) i j h l (omega arith)

@@ -1,7 +1,7 @@
 -- What every call keeps: the state is that of the sequence which was spelled. Pair counting is a kind of fold that edits follow; each
 -- contract is read as an edit of that kind. Assumes nothing.
 use mathlib.Core.Path.{_≡_, refl, ap, _∙_, sym}
-use mathlib.Core.Bool.{Bool, true, false, true≢false}
+use mathlib.Core.Bool.{Bool, false}
 use mathlib.Core.List.{List, map}
 use Prim.Native.Nat.{ℕ, _+_, _-_, _≤_, _<_}
 use native.Mathlib.Omega.{arith}
@@ -10,8 +10,8 @@ use lib.Seq.{getD-set-same, getD-set-other}
 use Rattle.refusals.specs.Refusals.{clear, foldLimit}
 use Rattle.refusals.specs.declared.Place.the-variants.{At}
 use Rattle.refusals.proofs.Laws.{each-clear, clear-each, check-clear}
-use Rattle.bases.specs.Bases.{Spelt, kept, refused, reads, isRefused, letterIn, noBase, normal}
-use Rattle.bases.proofs.Laws.{normal-zero, normal-kept, kept-base}
+use Rattle.bases.specs.Bases.{noBase, normal}
+use Rattle.bases.proofs.Laws.{normal-base, normal-again}
 use Rattle.structure.specs.Table.{view}
 use Rattle.sequences.specs.Sequences.{baseDue, basesDue}
 use Rattle.sequences.proofs.Letters.{letter-at}
@@ -32,28 +32,6 @@ use Rattle.counting.specs.Calls.{countOf, Folds}
 use Rattle.counting.specs.Histories.{State, state, Meets, outcome, Call}
 use Rattle.counting.proofs.Accepted.{foldable, accepted as allowed}
 use Rattle.counting.proofs.Believable.{replace-clear, add-clear, erase-clear}
-
--- ---- letters
-
--- the letter of a base is one
-pub normal-base : (x : ℕ) → noBase x ≡ false → noBase (normal x) ≡ false
-normal-base x h = kept-base (normal x) (normal-kept x h) .0
-
-nothing-kept : (r : Spelt) → isRefused r ≡ true → letterIn r ≡ 0
-nothing-kept (kept y) e = absurd (true≢false (sym e))
-nothing-kept (refused num) e = refl
-
-no-letter : (x : ℕ) → noBase x ≡ true → normal x ≡ 0
-unfolding noBase normal
-no-letter x e = nothing-kept (reads x) e
-
--- and is its own letter; of a byte that is no base nothing is kept, and again nothing
-pub normal-again : (x : ℕ) → normal (normal x) ≡ normal x
-normal-again x = go (noBase x) refl
-  where
-    go : (p : Bool) → noBase x ≡ p → normal (normal x) ≡ normal x
-    go true e = let z = no-letter x e in rw z normal-zero
-    go false e = kept-base (normal x) (normal-kept x e) .1
 
 -- ---- pair counting as a kind of fold with edits
 

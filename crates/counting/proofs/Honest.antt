@@ -19,7 +19,7 @@ use Rattle.count_rule.proofs.Laws.{nussinov-keeps}
 use Rattle.edits.specs.Edits.{Edit, spelled}
 use Rattle.edits.specs.Runs.{Run}
 use Rattle.edits.specs.Kinds.{Good}
-use Rattle.edits.proofs.Keeping.{right-fine}
+use Rattle.cells.proofs.Fills.{right-fine}
 use Rattle.counting.specs.declared.Record.{Record}
 use Rattle.counting.specs.declared.Counted.the-variants.{Folded}
 use Rattle.counting.specs.Checks.{allKept, keptDue, traceDue, foldDue}

@@ -1,12 +1,12 @@
 -- Each edit keeps bases and table those of what is spelled; and one sequence has one table. Assumes nothing.
-use mathlib.Core.Path.{_≡_, refl, ap, _∙_, sym, subst}
+use mathlib.Core.Path.{_≡_, refl, ap, _∙_, sym}
 use mathlib.Core.List.{List, [], _∷_, _++_, map}
 use Prim.Native.Nat.{ℕ, zero, suc, _+_, _-_, _≤_, _<_}
 use native.Mathlib.Omega.{arith}
 use lib.ListN.{length, getD, set, take, length-set, length-append, length-take, length-map, List·getD-append}
 use lib.Seq.{getD-set-same, getD-set-other, getD-append-seam, getD-take}
-use Rattle.cells.specs.Rule.{Bases, Cells, Rule, Local, Right}
-use Rattle.cells.specs.Fill.{at, Fine, Keeps, Columns}
+use Rattle.cells.specs.Rule.{Bases, Rule, Local}
+use Rattle.cells.specs.Fill.{at, Keeps, Columns}
 use Rattle.cells.proofs.Places.{three}
 use Rattle.cells.proofs.Rules.{unique}
 use Rattle.cells.proofs.Fills.{replaced-right, added-right}
@@ -17,20 +17,6 @@ pub letter-at : (letter : ℕ → ℕ) (s : List ℕ) (k : ℕ) → k < length s
 letter-at letter [] k h = absurd (omega arith)
 letter-at letter (x ∷ s) zero h = refl
 letter-at letter (x ∷ s) (suc k) h = letter-at letter s k (omega arith)
-
--- by induction on a bound s of the span
-fine-below :
-    {A : Type 0} (rule : Rule A) (Ok : Bases → ℕ → ℕ → A → Type 0) → Keeps rule Ok → (b : Bases) (c : Cells A) (n : ℕ) → Right rule b c n →
-    (s i j : ℕ) → i ≤ j → j < n → j < i + s → Ok b i j (c i j)
-fine-below rule Ok keeps b c n r zero i j h l m = absurd (omega arith)
-fine-below rule Ok keeps b c n r (suc s) i j h l m =
-    subst (Ok b i j) (sym (r i j h l)) (keeps b c i j h (λ k o p q u w. fine-below rule Ok keeps b c n r s k o q (omega arith) (omega arith)))
-
--- every right table is believable
-pub right-fine :
-    {A : Type 0} (rule : Rule A) (Ok : Bases → ℕ → ℕ → A → Type 0) → Keeps rule Ok → (b : Bases) (c : Cells A) (n : ℕ) → Right rule b c n →
-    Fine (Ok b) c n
-right-fine rule Ok keeps b c n r i j h l = fine-below rule Ok keeps b c n r (suc j) i j h l (omega arith)
 
 module _
     {A : Type 0} (rule : Rule A) (loc : Local rule) (Ok : Bases → ℕ → ℕ → A → Type 0) (keeps : Keeps rule Ok)
