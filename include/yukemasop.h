@@ -160,7 +160,7 @@ ykm_counted ykm_nussinov(const uint8_t *seq, size_t seq_length, size_t gap,
  * Refusals of all four calls, before their own: 11 if n is 0 or above 256; 4 if bases is shorter than n,
  * or cells than n(n+1)/2; 11 if one of the n bytes isn't A, C, G or U in upper case, or a used cell is
  * above half its span's length, (j - i + 1)/2 rounded down. Other wrong cells aren't found: from them
- * each call still writes what docs/RULES.md says, but that equals no fold.
+ * each call still writes what docs/RULES.md says, which needn't be what a fold writes.
  *
  * Replaces the base at position by that of byte. Writes that one byte of bases, and of the used cells
  * those of the spans that hold position. record: as it came. Its own refusals: 10 if position is not

@@ -1,6 +1,7 @@
 //! Times calls of the library and of the original on the same inputs. `bench/run` builds and runs it.
 
 mod counting;
+mod edits;
 mod structures;
 
 use std::hint::black_box;
@@ -33,4 +34,6 @@ fn main() {
     structures::measure();
     println!();
     counting::measure();
+    println!();
+    edits::measure();
 }

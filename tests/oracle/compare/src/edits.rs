@@ -413,11 +413,11 @@ fn edited(editor: &mut Editor, edit: Edit) -> yukemasop::Result<usize> {
     }
 }
 
-/// What is held, short enough for a message: the used cells follow from a fold only where the table is right.
+/// What is held, without the cells of long sequences: a message should stay readable.
 fn told(held: &Held) -> String {
     let n = held.record.length;
     let letters = &held.bases[..n.min(held.bases.len())];
-    let cells = &held.cells[..slow::place(0, n.min(9)).min(held.cells.len())];
+    let cells = &held.cells[..slow::place(0, n.min(24)).min(held.cells.len())];
     format!(
         "{} of length {n} in room {} and {}, cells {cells:?}",
         shown(letters, held.record.gap),
