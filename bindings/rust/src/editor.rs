@@ -11,7 +11,7 @@ use std::fmt;
 /// changes nothing.
 ///
 /// ```
-/// use yukemasop::editor::Editor;
+/// use yukemasop::Editor;
 ///
 /// let mut editor = Editor::new(b"GGGAAACCC", 3).unwrap();
 /// assert_eq!(editor.count(), 3);
@@ -61,7 +61,7 @@ impl Editor {
     /// 10 if `position` is outside; 2 at place 0 if `byte` is no base.
     ///
     /// ```
-    /// let mut editor = yukemasop::editor::Editor::new(b"GA", 0).unwrap();
+    /// let mut editor = yukemasop::Editor::new(b"GA", 0).unwrap();
     /// assert_eq!(editor.replace(1, b'c'), Ok(1));
     /// assert_eq!(editor.replace(2, b'c').unwrap_err().to_string(), "refused 10");
     /// ```
@@ -83,7 +83,7 @@ impl Editor {
     /// 2 at place 0 if `byte` is no base; 3 if there are 256 bases.
     ///
     /// ```
-    /// let mut editor = yukemasop::editor::Editor::new(&[b'a'; 255], 3).unwrap();
+    /// let mut editor = yukemasop::Editor::new(&[b'a'; 255], 3).unwrap();
     /// assert_eq!(editor.add(b'u'), Ok(1));
     /// assert_eq!(editor.add(b'u').unwrap_err().to_string(), "refused 3");
     /// ```
@@ -99,7 +99,7 @@ impl Editor {
     /// 1 if there is one base.
     ///
     /// ```
-    /// let mut editor = yukemasop::editor::Editor::new(b"GC", 0).unwrap();
+    /// let mut editor = yukemasop::Editor::new(b"GC", 0).unwrap();
     /// assert_eq!(editor.erase(), Ok(0));
     /// assert_eq!(editor.erase().unwrap_err().to_string(), "refused 1");
     /// assert_eq!(editor.sequence(), b"G");

@@ -17,7 +17,7 @@
 //! Edits are lent the record, the kept letters and the cells that a fold or the edit before left. They
 //! bring the two buffers to what a fold of the edited sequence writes, keep the gap, and give the new
 //! record and count; the structure is asked for by [`traceback`]. An edit that is refused gives no record,
-//! and the one that it was lent still holds. [`Editor`](crate::editor::Editor) does all this by itself.
+//! and the one that it was lent still holds. [`Editor`](crate::Editor) does all this by itself.
 //!
 //! ```
 //! use yukemasop::folds;

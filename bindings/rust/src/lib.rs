@@ -13,7 +13,7 @@ mod bases;
 #[cfg(feature = "bridge")]
 mod bridge;
 mod counting;
-pub mod editor;
+mod editor;
 mod ffi;
 pub mod folds;
 mod refusal;
@@ -22,6 +22,7 @@ pub mod tables;
 
 pub use bases::{can_pair, pair_index, read_base};
 pub use counting::{nussinov, NussinovResult};
+pub use editor::Editor;
 pub use refusal::{Refusal, Result};
 pub use structure::{base_pair_distance, mountain_distance, RnaSecondaryStructure};
 

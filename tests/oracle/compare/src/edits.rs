@@ -5,7 +5,7 @@ use crate::histories::{self, made};
 use crate::slow::{self, refusal, Edit, Held};
 use crate::{same, Found};
 use strands::{strand, Random, Temper};
-use yukemasop::editor::Editor;
+use yukemasop::Editor;
 use yukemasop::folds::{self, Record};
 use yukemasop::tables::UNPAIRED;
 use yukemasop::Refusal;
