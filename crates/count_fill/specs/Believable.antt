@@ -9,6 +9,10 @@ use Rattle.cells.specs.Solve.{every}
 unfoldable pub halfAt : Cells ℕ → ℕ → ℕ → Bool
 halfAt c j i = leb (2 * c i j + i) (j + 1)
 
+-- how full a cell is, i rows into the column at a place: above the column's number and 1 where it is not believable
+unfoldable pub fullness : (ℕ → ℕ) → ℕ → ℕ → ℕ
+fullness g to i = 2 * g (to + i) + i
+
 -- so is each cell of column j
 unfoldable pub columnHalf : Cells ℕ → ℕ → Bool
 columnHalf c j = every (halfAt c j) (j + 1)

@@ -6,9 +6,9 @@ ghost use Rattle.cells.specs.Tri.{tri, place};
 ghost use Rattle.cells.specs.Fill.{at, Fine, FineFrom, Rows};
 ghost use Rattle.cells.specs.Pass.{Raised, Settled};
 ghost use Rattle.structure.specs.Table.{view};
-ghost use Rattle.count_rule.specs.Rule.{paired, nussinov, Half};
+ghost use Rattle.count_rule.specs.Rule.{best, paired, nussinov, Half};
 ghost use Rattle.count_fill.specs.Passes.{AnyHalf, Before, begun, Started, Fit, both};
-ghost use Rattle.count_fill.specs.Believable.{columnHalf};
+ghost use Rattle.count_fill.specs.Believable.{fullness, columnHalf};
 
 fn larger(a: u16, b: u16) -> u16
     ensures { λ r. ⌜ r ≡ max a b ⌝ }
@@ -108,10 +108,25 @@ pub fn rows(bases: &[u8], cells: &mut [u16], j: usize, from: usize, gap: usize)
     settle(cells, j, to, from);
 }
 
-fn wide(x: u16) -> usize
-    ensures { λ r. ⌜ r ≡ x ⌝ }
+fn fuller(a: u32, b: u32) -> u32
+    ensures { λ r. ⌜ r ≡ max a b ⌝ }
 {
-    x as usize
+    if a < b { b } else { a }
+}
+
+// How full the fullest of so many cells of the column at `to` is: one contiguous pass without a way out, which the compiler can make wide.
+fn fullest(cells: &[u16], to: usize, rows: usize) -> u32
+    requires { ⌜ (to + rows ≤ length (now cells)) × (rows < 65536) ⌝ }
+    ensures { λ r. ⌜ r ≡ best (fullness (view (now (cells .entry))) to) 0 rows ⌝ }
+{
+    let mut most: u32 = 0;
+    let mut i = 0;
+    while i < rows {
+        let v = cells[to + i] as u32;
+        most = fuller(most, 2 * v + i as u32);
+        i += 1;
+    }
+    most
 }
 
 // Whether each cell of column j is believable.
@@ -119,13 +134,6 @@ pub fn column_half(cells: &[u16], j: usize) -> bool
     requires { ⌜ (j < 65535) × (tri (j + 1) ≤ length (now cells)) ⌝ }
     ensures { λ r. ⌜ r ≡ columnHalf (at (view (now (cells .entry)))) j ⌝ }
 {
-    let mut i = 0;
-    while i <= j {
-        let v = wide(read(cells, i, j));
-        if j + 1 < 2 * v + i {
-            return false;
-        }
-        i += 1;
-    }
-    true
+    let to = cells::place(0, j);
+    fullest(cells, to, j + 1) as usize <= j + 1
 }
