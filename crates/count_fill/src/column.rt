@@ -111,7 +111,7 @@ pub fn rows(bases: &[u8], cells: &mut [u16], j: usize, from: usize, gap: usize)
 fn fuller(a: u32, b: u32) -> u32
     ensures { λ r. ⌜ r ≡ max a b ⌝ }
 {
-    if a < b { b } else { a }
+    if b < a { a } else { b }
 }
 
 // How full the fullest of so many cells of the column at `to` is: one contiguous pass without a way out, which the compiler can make wide.
@@ -134,6 +134,6 @@ pub fn column_half(cells: &[u16], j: usize) -> bool
     requires { ⌜ (j < 65535) × (tri (j + 1) ≤ length (now cells)) ⌝ }
     ensures { λ r. ⌜ r ≡ columnHalf (at (view (now (cells .entry)))) j ⌝ }
 {
-    let to = cells::place(0, j);
-    fullest(cells, to, j + 1) as usize <= j + 1
+    let column = cells::place(0, j);
+    fullest(cells, column, j + 1) as usize <= j + 1
 }
