@@ -1,0 +1,2 @@
+-- What contracts on signed numbers and on energies cite.
+pub mod Ints
