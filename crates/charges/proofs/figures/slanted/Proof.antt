@@ -1,0 +1,34 @@
+-- `charges::figures::slanted` meets its contract: the capped difference fits.
+use Rattle.charges.specs.Charge.{slant}
+use mir.Facts.{toZ-pos}
+use mir.Syntax.{w32}
+use lib.IntN.{pos}
+use Prim.Native.Nat.{_*_}
+use mathlib.Core.Path.{_∙_, ap}
+use native.Mathlib.Omega.{arith}
+use borrow.Author.Needs.{needs}
+use Rattle.charges.proofs.figures.slanted.Statement.{statement}
+use Rattle.charges.proofs.figures.slanted.Tie as tie
+
+apart-requires : tie.Need-apart-requires
+apart-requires c κs = search needs
+
+mul-capped : tie.Need-mul-capped
+mul-capped c = search needs
+
+capped-requires : tie.Need-capped-requires
+capped-requires c κs = search needs
+
+mul-result : tie.Need-mul-result
+mul-result c = search needs
+
+cast-result : tie.Need-cast-result
+cast-result c = search needs
+
+returns : tie.Need-returns
+unfolding slant
+returns c = toZ-pos w32 {n = 100 * c .capped .result} (omega arith) ∙ ap pos (omega arith)
+
+pub slanted-spec : {M : Type 1} → statement M
+slanted-spec =
+    tie.close (tie.spec apart-requires mul-capped capped-requires mul-result cast-result returns)

@@ -1,0 +1,3 @@
+-- What the contracts of `charges`, and of every crate that charges a loop, cite.
+pub mod Figures
+pub mod Charge
