@@ -1,0 +1,115 @@
+-- What the loop that opens at i costs: the only place that knows how a loop with one inner pair is charged.
+use mathlib.Core.Path.{_≡_, refl, sym, ap, _∙_}
+use mathlib.Core.Logic.{by-cases}
+use Prim.Native.Nat.{ℕ, zero, suc, _+_, _-_, _≤_}
+use native.Mathlib.Omega.{arith}
+use native.Mathlib.Decide.{decLt}
+use lib.Dec.{eqb}
+use lib.IntN.{ℤ, pos, negsuc}
+use lib.Signed.{leZ, _≤ℤ_}
+use borrow.Author.Tests.{le-leb, lt-leb}
+use Rattle.bases.specs.Bases.{pairIndex}
+use Rattle.ints.specs.Ints.{In}
+use Rattle.ints.proofs.Ints.{ints, either, le-yes, le-no}
+use Rattle.charges.specs.Figures.{longestSide}
+use Rattle.charges.specs.Charge.{manyOf, chargeOf, figureMost}
+use Rattle.charges.specs.Loops.{armsIn, firstIn, between, own, single, kindBy, kind, purines, hairpinAt, chargeBy, chargeAt}
+use Rattle.charges.proofs.Charges.{stackAt-in, bulgeOf-in, internalOf-in, hairpinOf-in}
+
+-- a loop with one inner pair asks for no bases of a hairpin
+between-any : (l r o i p : ℕ) → chargeOf (between l r) o i p ≡ chargeOf (between l r) o i 0
+unfolding between
+between-any l r o i p =
+    either (eqb l 0)
+    (λ e. either (eqb r 0) (λ q. rw (e, q)) (λ q. rw (e, q)))
+    (λ e. either (eqb r 0) (λ q. rw (e, q)) (λ q. rw (e, q)))
+
+-- ---- bounds
+pub own-in : (b : ℕ → ℕ) (i j x y : ℕ) → In (negsuc 3399) (pos figureMost) (own b i j x y)
+unfolding own between
+own-in b i j x y =
+    let o = pairIndex (b i) (b j) in
+    let n = pairIndex (b x) (b y) in
+    let l = x - suc i in
+    let r = j - suc y in
+    either (eqb l 0)
+    (λ e. either (eqb r 0) (λ q. rw (e, q) (omega (ints, stackAt-in o n))) (λ q. rw (e, q) (omega (ints, bulgeOf-in r o n))))
+    (λ e. either (eqb r 0) (λ q. rw (e, q) (omega (ints, bulgeOf-in l o n))) (λ q. rw (e, q) (omega (ints, internalOf-in l r))))
+
+pub hairpinAt-in : (b : ℕ → ℕ) (i j : ℕ) → In (negsuc 799) (pos figureMost) (hairpinAt b i j)
+unfolding hairpinAt
+hairpinAt-in b i j = hairpinOf-in (j - suc i) (purines (b (i + 1)) (b (j - 1)))
+
+-- ---- a loop with one inner pair (x, y)
+module _ (b : ℕ → ℕ) (i j x y : ℕ) where
+  data Single (z : ℤ) : Type 0 where
+    by-own : x - suc i ≤ longestSide → j - suc y ≤ longestSide → own b i j x y ≤ℤ manyOf 1 → z ≡ own b i j x y → Single z
+    by-many : z ≡ manyOf 1 → (x - suc i ≤ longestSide → j - suc y ≤ longestSide → manyOf 1 ≤ℤ own b i j x y) → Single z
+
+  single-is : Single (chargeBy b i j x y (single b i j x y))
+  unfolding chargeBy single own
+  single-is =
+      by-cases (decLt longestSide (x - suc i))
+      (λ h. rw (lt-leb (x - suc i) longestSide h) (by-many refl (λ u v. absurd (omega arith))))
+      (λ h. by-cases (decLt longestSide (j - suc y))
+      (λ g. rw (le-leb (x - suc i) longestSide (omega arith), lt-leb (j - suc y) longestSide g) (by-many refl (λ u v. absurd (omega arith))))
+      (λ g. either (leZ (own b i j x y) (manyOf 1))
+      (λ e. rw (le-leb (x - suc i) longestSide (omega arith), le-leb (j - suc y) longestSide (omega arith), e)
+      (by-own (omega arith) (omega arith) (let t = le-yes (own b i j x y) (manyOf 1) e in omega ints) (between-any _ _ _ _ _)))
+      (λ e. rw (le-leb (x - suc i) longestSide (omega arith), le-leb (j - suc y) longestSide (omega arith), e)
+      (by-many refl (λ u v. let t = le-no (own b i j x y) (manyOf 1) e in omega ints)))))
+
+-- ---- the loop that opens at i
+module _ (b p : ℕ → ℕ) (i : ℕ) where
+  -- its inner pairs, and the first of them
+  abbrev pub inside : ℕ
+  inside = armsIn p (suc i) (p i)
+
+  abbrev pub head : ℕ
+  head = firstIn p (suc i) (p i)
+
+  pub data Charged : Type 0 where
+    by-hairpin : inside ≡ 0 → chargeAt b p i ≡ hairpinAt b i (p i) → Charged
+    by-inner : inside ≡ 1 → head - suc i ≤ longestSide → p i - suc (p head) ≤ longestSide → chargeAt b p i ≡ own b i (p i) head (p head) → Charged
+    by-arms : 1 ≤ inside → chargeAt b p i ≡ manyOf inside → Charged
+
+  pub none : inside ≡ 0 → chargeAt b p i ≡ hairpinAt b i (p i)
+  unfolding chargeAt chargeBy kind kindBy hairpinAt
+  none e = rw e
+
+  one : inside ≡ 1 → Single b i (p i) head (p head) (chargeAt b p i)
+  unfolding chargeAt kind kindBy
+  one e = rw e (single-is b i (p i) head (p head))
+
+  more : (m : ℕ) → inside ≡ suc (suc m) → chargeAt b p i ≡ manyOf inside
+  unfolding chargeAt chargeBy kind kindBy
+  more m e = rw e
+
+  charged-by : (m : ℕ) → inside ≡ m → Charged
+  charged-by zero e = by-hairpin e (none e)
+  charged-by (suc zero) e = elim (one e) [
+    | by-own l r s q ↦ by-inner e l r q
+    | by-many q s ↦ by-arms (omega arith) (q ∙ ap manyOf (sym e))
+  ]
+  charged-by (suc (suc m)) e = by-arms (omega arith) (more m e)
+
+  pub charged : Charged
+  charged = charged-by inside refl
+
+  -- at most its own figure, and at most that of a many-armed loop
+  pub inner-most : inside ≡ 1 → head - suc i ≤ longestSide → p i - suc (p head) ≤ longestSide → chargeAt b p i ≤ℤ own b i (p i) head (p head)
+  inner-most e l r = elim (one e) [
+    | by-own _ _ s q ↦ omega ints
+    | by-many q s ↦ let t = s l r in omega ints
+  ]
+
+  arms-by : (m : ℕ) → inside ≡ m → 1 ≤ m → chargeAt b p i ≤ℤ manyOf inside
+  arms-by zero e h = absurd (omega arith)
+  arms-by (suc zero) e h = let k : manyOf inside ≡ manyOf 1 = ap manyOf e in elim (one e) [
+    | by-own _ _ s q ↦ omega ints
+    | by-many q s ↦ omega ints
+  ]
+  arms-by (suc (suc m)) e h = let k = more m e in omega ints
+
+  pub arms-most : 1 ≤ inside → chargeAt b p i ≤ℤ manyOf inside
+  arms-most h = arms-by inside refl h

@@ -1,0 +1,83 @@
+-- Loops with their kinds and charges, and a strand with its energy: one table, computed.
+use mathlib.Core.Path.{_≡_, refl}
+use mathlib.Core.List.{List, [], _∷_, _++_}
+use Prim.Native.Nat.{ℕ, suc, _+_}
+use lib.IntN.{ℤ, pos, negsuc}
+use lib.ListN.{replicate}
+use Rattle.bases.specs.Bases.{canPair, pairIndex, isPurine}
+use Rattle.structure.specs.Table.{unpaired, view, glyphs, brackets}
+use Rattle.charges.specs.Figures as fig
+use Rattle.charges.specs.Charge.{hairpin, mismatch, bulge, internal, stack, long, sized, hairpinOf, stackAt, bulgeOf, slant, internalOf, manyOf, chargeOf}
+use Rattle.charges.specs.Loops.{arms, first, between, own, single, kindBy, kind, purines, chargeBy, chargeAt, total, energyOf}
+use Rattle.charges.specs.declared.Loop.{Loop}
+use Rattle.charges.specs.declared.Loop.the-variants.{Hairpin, Stack, Bulge, Internal, Many}
+
+-- a line: bases, pair table, the kind of the loop that opens at 0 and its charge; a kind's own figure; bases, pair table, its text and its energy
+pub data Line : Type 0 where
+  loop : List ℕ → List ℕ → Loop → ℤ → Line
+  figure : Loop → ℕ → ℕ → ℕ → ℤ → Line
+  strand : List ℕ → List ℕ → List ℕ → ℤ → Line
+
+abbrev pub Says : Line → Type 0
+Says (loop b t l z) = _≡_ {A = Loop × ℤ} (kind (view b) (view t) 0, chargeAt (view b) (view t) 0) (l, z)
+Says (figure l o i p z) = chargeOf l o i p ≡ z
+Says (strand b t s z) = _≡_ {A = List ℕ × ℤ} (brackets t, energyOf b t) (s, z)
+
+abbrev pub Every : List Line → Type 0
+Every [] = Unit {0}
+Every (line ∷ rest) = Says line × Every rest
+
+-- G, the bases of a hairpin, C
+abbrev hairpins : ℕ → List ℕ → Loop → ℤ → Line
+hairpins n s = loop (71 ∷ (s ++ (67 ∷ []))) (suc n ∷ (replicate n unpaired ++ (0 ∷ [])))
+
+-- the outer pair a .. z around the inner hairpin GAAAC, with l bases A before it and r after it
+abbrev sides : ℕ → ℕ → ℕ → ℕ → Loop → ℤ → Line
+sides a z l r =
+    loop (a ∷ (replicate l 65 ++ (71 ∷ 65 ∷ 65 ∷ 65 ∷ 67 ∷ (replicate r 65 ++ (z ∷ [])))))
+    ((l + r + 6) ∷ (replicate l unpaired ++ ((l + 5) ∷ unpaired ∷ unpaired ∷ unpaired ∷ suc l ∷ (replicate r unpaired ++ (0 ∷ [])))))
+
+abbrev pub table : List Line
+table =
+    -- hairpins: the smallest has no mismatch; two, one and no purines; one longer than 30
+    hairpins 3 (65 ∷ 65 ∷ 65 ∷ []) (Hairpin 3) (pos 5400)
+    ∷ hairpins 4 (65 ∷ 67 ∷ 67 ∷ 71 ∷ []) (Hairpin 4) (pos 4800)
+    ∷ hairpins 4 (65 ∷ 67 ∷ 67 ∷ 67 ∷ []) (Hairpin 4) (pos 5200)
+    ∷ hairpins 4 (67 ∷ 65 ∷ 65 ∷ 85 ∷ []) (Hairpin 4) (pos 5600)
+    ∷ hairpins 40 (replicate 40 65) (Hairpin 40) (pos 6110)
+    -- stacks, by the outer pair first
+    ∷ sides 65 85 0 0 Stack (negsuc 2199)
+    ∷ sides 67 71 0 0 Stack (negsuc 2399)
+    -- bulges on either side: size 1 has its stack, size 5 is the last that is cheaper than a many-armed loop
+    ∷ sides 71 67 1 0 (Bulge 1) (pos 500)
+    ∷ sides 65 85 0 1 (Bulge 1) (pos 1600)
+    ∷ sides 71 67 5 0 (Bulge 5) (pos 4000)
+    ∷ sides 71 67 6 0 (Many 1) (pos 4200)
+    -- internal loops, the exact ties, and what is above
+    ∷ sides 71 67 1 1 (Internal 1 1) (pos 0)
+    ∷ sides 71 67 2 3 (Internal 2 3) (pos 2300)
+    ∷ sides 71 67 6 10 (Internal 6 10) (pos 4200)
+    ∷ sides 71 67 9 12 (Internal 9 12) (pos 4200)
+    ∷ sides 71 67 14 16 (Internal 14 16) (pos 4200)
+    ∷ sides 71 67 6 11 (Many 1) (pos 4200)
+    ∷ sides 71 67 29 29 (Many 1) (pos 4200)
+    ∷ sides 71 67 30 30 (Many 1) (pos 4200)
+    ∷ sides 71 67 0 30 (Many 1) (pos 4200)
+    -- two arms
+    ∷ loop (71 ∷ 71 ∷ 65 ∷ 65 ∷ 65 ∷ 67 ∷ 71 ∷ 65 ∷ 65 ∷ 65 ∷ 67 ∷ 67 ∷ []) (11 ∷ 5 ∷ unpaired ∷ unpaired ∷ unpaired ∷ 1 ∷ 10 ∷ unpaired ∷ unpaired ∷ unpaired ∷ 6 ∷ 0 ∷ []) (Many 2) (pos 4600)
+    -- own figures that no loop above shows: the longest side, the cap on the slant, a long internal loop
+    ∷ figure (Bulge 29) 0 0 0 (pos 6000)
+    ∷ figure (Internal 1 12) 0 0 0 (pos 5800)
+    ∷ figure (Internal 29 29) 0 0 0 (pos 4311)
+    -- GGGAAACCC, (((...))); GGGAAAACCC, (((....))); GGGAAAAAAGGGAAACCCCCC, (((......(((...))))))
+    ∷ strand (71 ∷ 71 ∷ 71 ∷ 65 ∷ 65 ∷ 65 ∷ 67 ∷ 67 ∷ 67 ∷ []) (8 ∷ 7 ∷ 6 ∷ unpaired ∷ unpaired ∷ unpaired ∷ 2 ∷ 1 ∷ 0 ∷ []) (40 ∷ 40 ∷ 40 ∷ 46 ∷ 46 ∷ 46 ∷ 41 ∷ 41 ∷ 41 ∷ []) (negsuc 1199)
+    ∷ strand (71 ∷ 71 ∷ 71 ∷ 65 ∷ 65 ∷ 65 ∷ 65 ∷ 67 ∷ 67 ∷ 67 ∷ []) (9 ∷ 8 ∷ 7 ∷ unpaired ∷ unpaired ∷ unpaired ∷ unpaired ∷ 2 ∷ 1 ∷ 0 ∷ []) (40 ∷ 40 ∷ 40 ∷ 46 ∷ 46 ∷ 46 ∷ 46 ∷ 41 ∷ 41 ∷ 41 ∷ []) (negsuc 1799)
+    ∷ strand (71 ∷ 71 ∷ 71 ∷ 65 ∷ 65 ∷ 65 ∷ 65 ∷ 65 ∷ 65 ∷ 71 ∷ 71 ∷ 71 ∷ 65 ∷ 65 ∷ 65 ∷ 67 ∷ 67 ∷ 67 ∷ 67 ∷ 67 ∷ 67 ∷ [])
+    (20 ∷ 19 ∷ 18 ∷ unpaired ∷ unpaired ∷ unpaired ∷ unpaired ∷ unpaired ∷ unpaired ∷ 17 ∷ 16 ∷ 15 ∷ unpaired ∷ unpaired ∷ unpaired ∷ 11 ∷ 10 ∷ 9 ∷ 2 ∷ 1 ∷ 0 ∷ [])
+    (40 ∷ 40 ∷ 40 ∷ 46 ∷ 46 ∷ 46 ∷ 46 ∷ 46 ∷ 46 ∷ 40 ∷ 40 ∷ 40 ∷ 46 ∷ 46 ∷ 46 ∷ 41 ∷ 41 ∷ 41 ∷ 41 ∷ 41 ∷ 41 ∷ [])
+    (negsuc 3599)
+    ∷ []
+
+pub kinds : Every table
+unfolding fig.hairpin fig.mismatch fig.bulge fig.internal fig.stack fig.long hairpin mismatch bulge internal stack long sized hairpinOf stackAt bulgeOf slant internalOf manyOf canPair pairIndex isPurine arms first between own single kindBy kind purines chargeBy chargeAt total glyphs brackets
+kinds = (refl, (refl, (refl, (refl, (refl, (refl, (refl, (refl, (refl, (refl, (refl, (refl, (refl, (refl, (refl, (refl, (refl, (refl, (refl, (refl, (refl, (refl, (refl, (refl, (refl, (refl, (refl, tt)))))))))))))))))))))))))))
