@@ -1,10 +1,12 @@
 -- What the loop that opens at i costs: the only place that knows how a loop with one inner pair is charged.
 use mathlib.Core.Path.{_≡_, refl, sym, ap, _∙_}
 use mathlib.Core.Logic.{by-cases}
-use Prim.Native.Nat.{ℕ, zero, suc, _+_, _-_, _≤_}
+use Prim.Native.Nat.{ℕ, zero, suc, _+_, _-_, _<_, _≤_}
+use mathlib.Core.Bool.{true, false}
 use native.Mathlib.Omega.{arith}
+use native.Mathlib.Numerals.{add-one}
 use native.Mathlib.Decide.{decLt}
-use lib.Dec.{eqb}
+use lib.Dec.{leb, eqb}
 use lib.IntN.{ℤ, pos, negsuc}
 use lib.Signed.{leZ, _≤ℤ_}
 use borrow.Author.Tests.{le-leb, lt-leb}
@@ -12,8 +14,10 @@ use Rattle.bases.specs.Bases.{pairIndex}
 use Rattle.ints.specs.Ints.{In}
 use Rattle.ints.proofs.Ints.{ints, either, le-yes, le-no}
 use Rattle.charges.specs.Figures.{longestSide}
-use Rattle.charges.specs.Charge.{manyOf, chargeOf, figureMost}
+use Rattle.charges.specs.Charge.{hairpinOf, manyOf, chargeOf, figureMost}
 use Rattle.charges.specs.Loops.{armsIn, firstIn, between, own, single, kindBy, kind, purines, hairpinAt, chargeBy, chargeAt}
+use Rattle.charges.specs.declared.Loop.{Loop}
+use Rattle.charges.specs.declared.Loop.the-variants.{Hairpin, Many}
 use Rattle.charges.proofs.Charges.{stackAt-in, bulgeOf-in, internalOf-in, hairpinOf-in}
 
 -- a loop with one inner pair asks for no bases of a hairpin
@@ -42,22 +46,40 @@ hairpinAt-in b i j = hairpinOf-in (j - suc i) (purines (b (i + 1)) (b (j - 1)))
 
 -- ---- a loop with one inner pair (x, y)
 module _ (b : ℕ → ℕ) (i j x y : ℕ) where
+  pub single-left : longestSide < x - suc i → single b i j x y ≡ Many 1
+  unfolding single
+  single-left h = rw (lt-leb (x - suc i) longestSide h)
+
+  pub single-right : longestSide < j - suc y → single b i j x y ≡ Many 1
+  unfolding single
+  single-right h =
+      either (leb (x - suc i) longestSide) (λ e. rw (e, lt-leb (j - suc y) longestSide h)) (λ e. rw e)
+
+  module _ (l : x - suc i ≤ longestSide) (r : j - suc y ≤ longestSide) where
+    pub single-own : leZ (own b i j x y) (manyOf 1) ≡ true → single b i j x y ≡ between (x - suc i) (j - suc y)
+    unfolding single
+    single-own e = rw (le-leb (x - suc i) longestSide l, le-leb (j - suc y) longestSide r, e)
+
+    pub single-many : leZ (own b i j x y) (manyOf 1) ≡ false → single b i j x y ≡ Many 1
+    unfolding single
+    single-many e = rw (le-leb (x - suc i) longestSide l, le-leb (j - suc y) longestSide r, e)
+
+  -- what it costs
   data Single (z : ℤ) : Type 0 where
     by-own : x - suc i ≤ longestSide → j - suc y ≤ longestSide → own b i j x y ≤ℤ manyOf 1 → z ≡ own b i j x y → Single z
     by-many : z ≡ manyOf 1 → (x - suc i ≤ longestSide → j - suc y ≤ longestSide → manyOf 1 ≤ℤ own b i j x y) → Single z
 
   single-is : Single (chargeBy b i j x y (single b i j x y))
-  unfolding chargeBy single own
+  unfolding chargeBy own
   single-is =
       by-cases (decLt longestSide (x - suc i))
-      (λ h. rw (lt-leb (x - suc i) longestSide h) (by-many refl (λ u v. absurd (omega arith))))
+      (λ h. rw (single-left h) (by-many refl (λ u v. absurd (omega arith))))
       (λ h. by-cases (decLt longestSide (j - suc y))
-      (λ g. rw (le-leb (x - suc i) longestSide (omega arith), lt-leb (j - suc y) longestSide g) (by-many refl (λ u v. absurd (omega arith))))
+      (λ g. rw (single-right g) (by-many refl (λ u v. absurd (omega arith))))
       (λ g. either (leZ (own b i j x y) (manyOf 1))
-      (λ e. rw (le-leb (x - suc i) longestSide (omega arith), le-leb (j - suc y) longestSide (omega arith), e)
+      (λ e. rw (single-own (omega arith) (omega arith) e)
       (by-own (omega arith) (omega arith) (let t = le-yes (own b i j x y) (manyOf 1) e in omega ints) (between-any _ _ _ _ _)))
-      (λ e. rw (le-leb (x - suc i) longestSide (omega arith), le-leb (j - suc y) longestSide (omega arith), e)
-      (by-many refl (λ u v. let t = le-no (own b i j x y) (manyOf 1) e in omega ints)))))
+      (λ e. rw (single-many (omega arith) (omega arith) e) (by-many refl (λ u v. let t = le-no (own b i j x y) (manyOf 1) e in omega ints)))))
 
 -- ---- the loop that opens at i
 module _ (b p : ℕ → ℕ) (i : ℕ) where
@@ -73,17 +95,36 @@ module _ (b p : ℕ → ℕ) (i : ℕ) where
     by-inner : inside ≡ 1 → head - suc i ≤ longestSide → p i - suc (p head) ≤ longestSide → chargeAt b p i ≡ own b i (p i) head (p head) → Charged
     by-arms : 1 ≤ inside → chargeAt b p i ≡ manyOf inside → Charged
 
+  -- its kind, by their number
+  pub kind-none : inside ≡ 0 → kind b p i ≡ Hairpin (p i - suc i)
+  unfolding kind kindBy
+  kind-none e = rw e
+
+  pub kind-one : inside ≡ 1 → kind b p i ≡ single b i (p i) head (p head)
+  unfolding kind kindBy
+  kind-one e = rw e
+
+  kind-by : (m : ℕ) → inside ≡ m → 1 < m → kind b p i ≡ Many m
+  unfolding kind kindBy
+  kind-by zero e h = absurd (omega arith)
+  kind-by (suc zero) e h = absurd (omega arith)
+  kind-by (suc (suc m)) e h = rw e
+
+  pub kind-more : 1 < inside → kind b p i ≡ Many inside
+  kind-more h = kind-by inside refl h
+
+  -- and its charge
   pub none : inside ≡ 0 → chargeAt b p i ≡ hairpinAt b i (p i)
-  unfolding chargeAt chargeBy kind kindBy hairpinAt
-  none e = rw e
+  unfolding chargeAt chargeBy hairpinAt
+  none e = rw (kind-none e)
 
   one : inside ≡ 1 → Single b i (p i) head (p head) (chargeAt b p i)
-  unfolding chargeAt kind kindBy
-  one e = rw e (single-is b i (p i) head (p head))
+  unfolding chargeAt
+  one e = rw (kind-one e) (single-is b i (p i) head (p head))
 
-  more : (m : ℕ) → inside ≡ suc (suc m) → chargeAt b p i ≡ manyOf inside
-  unfolding chargeAt chargeBy kind kindBy
-  more m e = rw e
+  more : 1 < inside → chargeAt b p i ≡ manyOf inside
+  unfolding chargeAt chargeBy
+  more h = rw (kind-more h)
 
   charged-by : (m : ℕ) → inside ≡ m → Charged
   charged-by zero e = by-hairpin e (none e)
@@ -91,7 +132,7 @@ module _ (b p : ℕ → ℕ) (i : ℕ) where
     | by-own l r s q ↦ by-inner e l r q
     | by-many q s ↦ by-arms (omega arith) (q ∙ ap manyOf (sym e))
   ]
-  charged-by (suc (suc m)) e = by-arms (omega arith) (more m e)
+  charged-by (suc (suc m)) e = by-arms (omega arith) (more (omega arith))
 
   pub charged : Charged
   charged = charged-by inside refl
@@ -109,7 +150,22 @@ module _ (b p : ℕ → ℕ) (i : ℕ) where
     | by-own _ _ s q ↦ omega ints
     | by-many q s ↦ omega ints
   ]
-  arms-by (suc (suc m)) e h = let k = more m e in omega ints
+  arms-by (suc (suc m)) e h = let k = more (omega arith) in omega ints
 
   pub arms-most : 1 ≤ inside → chargeAt b p i ≤ℤ manyOf inside
   arms-most h = arms-by inside refl h
+
+-- ---- the figures as the code finds them, part by part
+pub own-is : (b : ℕ → ℕ) (i j x y l r o n : ℕ) (q : Loop) → q ≡ between l r → l ≡ x - suc i → r ≡ j - suc y → o ≡ pairIndex (b i) (b j)
+    → n ≡ pairIndex (b x) (b y) → chargeOf q o n 0 ≡ own b i j x y
+unfolding own
+own-is b i j x y l r o n q eq el er eo en = rw (eq, el, er, eo, en)
+
+pub hairpin-is : (b : ℕ → ℕ) (i j n q : ℕ) → n ≡ j - suc i → q ≡ purines (b (i + 1)) (b (j - 1)) → hairpinOf n q ≡ hairpinAt b i j
+unfolding hairpinAt
+hairpin-is b i j n q en eq = rw (en, eq)
+
+pub charge-is : (b p : ℕ → ℕ) (i x o n q : ℕ) (l : Loop) → l ≡ kind b p i → x ≡ firstIn p (i + 1) (p i) → o ≡ pairIndex (b i) (b (p i))
+    → n ≡ pairIndex (b x) (b (p x)) → q ≡ purines (b (i + 1)) (b (p i - 1)) → chargeOf l o n q ≡ chargeAt b p i
+unfolding chargeAt chargeBy
+charge-is b p i x o n q l el ex eo en eq = rw (el, eo, en, rw (add-one i) at ex, eq)

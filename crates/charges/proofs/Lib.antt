@@ -3,3 +3,4 @@ pub mod Charges
 pub mod KindTable
 pub mod Walk
 pub mod Charged
+pub mod Openings

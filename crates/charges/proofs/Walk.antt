@@ -69,6 +69,10 @@ module _ (p : ℕ → ℕ) where
   unfolding first
   first-next lo hi h o = let e : hi - lo ≡ suc (hi - suc lo) = omega arith in ap (λ x. first p x lo) e ∙ rw o
 
+  pub first-none : (lo hi : ℕ) → hi ≤ lo → firstIn p lo hi ≡ lo
+  unfolding first
+  first-none lo hi h = let e : hi - lo ≡ 0 = omega arith in ap (λ x. first p x lo) e
+
   pub first-le : (n k : ℕ) → (k ≤ first p n k) × (first p n k ≤ k + n)
   unfolding first
   first-le zero k = (omega arith, omega arith)

@@ -1,10 +1,22 @@
 // What loops cost: the kinds of loops, their figures, and the energy of a structure as the sum over its loops.
-// Every function here but `charge` is given a structure that is a candidate; specs/ has the figures as docs/RULES.md prints them.
+// These are inner parts: who calls them has tested that the structure is sound and that each of its pairs may close a loop.
 mod figures;
+mod inner;
 mod tables;
 
 ghost use mathlib.Core.Path.{_≡_};
+ghost use mathlib.Core.Bool.{true, cond};
+ghost use Prim.Native.Nat.{suc, _+_, _-_, _<_, _≤_};
+ghost use lib.IntN.{pos};
+ghost use lib.ListN.{length};
+ghost use Rattle.bases.specs.Bases.{canPair};
+ghost use Rattle.structure.specs.Table.{view};
+ghost use Rattle.charges.specs.Figures.{smallestHairpin, longestSide, longest};
 ghost use Rattle.charges.specs.Charge.{chargeOf, Figured};
+ghost use Rattle.charges.specs.Loops.{mayClose, opening, between, own, single, kind, purines, hairpinAt, chargeAt, energyOf, Chargeable};
+
+// The longest side of a bulge or an internal loop.
+pub const LONGEST_SIDE: usize = 29;
 
 // The loop of a closing pair, by kind: a hairpin of that many bases, a stack, a bulge of that many, an internal loop with its two sides, a many-armed loop with that many inner pairs.
 pub enum Loop {
@@ -27,4 +39,129 @@ pub fn charge(kind: Loop, outer: usize, inner: usize, purines: usize) -> i32
         Loop::Internal(left, right) => figures::internal(left, right),
         Loop::Many(arms) => figures::many(arms),
     }
+}
+
+fn counted(yes: bool) -> usize
+    ensures { λ r. ⌜ r ≡ cond yes 1 0 ⌝ }
+{
+    if yes { 1 } else { 0 }
+}
+
+// How many of two bases are purines.
+fn purines(a: u8, b: u8) -> usize
+    ensures { λ r. ⌜ r ≡ purines a b ⌝ }
+{
+    counted(bases::is_purine(a)) + counted(bases::is_purine(b))
+}
+
+// What the hairpin costs that i and j close.
+pub fn hairpin_at(bases: &[u8], i: usize, j: usize) -> i32
+    requires { ⌜ (j < length (now bases)) × (smallestHairpin < j - i) × (j - suc i ≤ longest) ⌝ }
+    ensures { λ r. ⌜ r ≡ hairpinAt (view (now (bases .entry))) i j ⌝ }
+{
+    charge(Loop::Hairpin(j - (i + 1)), 0, 0, purines(bases[i + 1], bases[j - 1]))
+}
+
+// The kind of a loop with one inner pair, by its sides.
+fn between(left: usize, right: usize) -> Loop
+    ensures { λ r. ⌜ r ≡ between left right ⌝ }
+{
+    if left == 0 {
+        if right == 0 {
+            return Loop::Stack;
+        }
+        return Loop::Bulge(right);
+    }
+    if right == 0 {
+        return Loop::Bulge(left);
+    }
+    Loop::Internal(left, right)
+}
+
+// What the loop of i and j with the one inner pair x and y costs by its own kind.
+pub fn own(bases: &[u8], i: usize, j: usize, x: usize, y: usize) -> i32
+    requires { ⌜ (i < x) × (x < y) × (y < j) × (j < length (now bases)) × (x - suc i ≤ longestSide) × (j - suc y ≤ longestSide) ⌝ }
+    requires { ⌜ (canPair (view (now bases) i) (view (now bases) j) ≡ true) × (canPair (view (now bases) x) (view (now bases) y) ≡ true) ⌝ }
+    ensures { λ r. ⌜ r ≡ own (view (now (bases .entry))) i j x y ⌝ }
+{
+    let outer = bases::pair_index(bases[i], bases[j]);
+    let inner = bases::pair_index(bases[x], bases[y]);
+    let kind = between(x - (i + 1), j - (y + 1));
+    charge(kind, outer, inner, 0)
+}
+
+// The kind of the loop of i and j with the one inner pair x and y: many-armed only where that is cheaper, or a side is too long.
+fn single(bases: &[u8], i: usize, j: usize, x: usize, y: usize) -> Loop
+    requires { ⌜ (i < x) × (x < y) × (y < j) × (j < length (now bases)) ⌝ }
+    requires { ⌜ (canPair (view (now bases) i) (view (now bases) j) ≡ true) × (canPair (view (now bases) x) (view (now bases) y) ≡ true) ⌝ }
+    ensures { λ r. ⌜ r ≡ single (view (now (bases .entry))) i j x y ⌝ }
+{
+    let left = x - (i + 1);
+    let right = j - (y + 1);
+    if LONGEST_SIDE < left {
+        return Loop::Many(1);
+    }
+    if LONGEST_SIDE < right {
+        return Loop::Many(1);
+    }
+    if own(bases, i, j, x, y) <= charge(Loop::Many(1), 0, 0, 0) {
+        return between(left, right);
+    }
+    Loop::Many(1)
+}
+
+// The kind of the loop that opens at i.
+pub fn kind_at(bases: &[u8], pairs: &[u16], i: usize) -> Loop
+    requires { ⌜ Chargeable (now bases) (now pairs) × (i < length (now pairs)) × (opening i (view (now pairs) i) ≡ true) ⌝ }
+    ensures { λ r. ⌜ r ≡ kind (view (now (bases .entry))) (view (now (pairs .entry))) i ⌝ }
+{
+    let j = pairs[i] as usize;
+    let arms = inner::arms_in(pairs, i + 1, j);
+    if arms == 0 {
+        return Loop::Hairpin(j - (i + 1));
+    }
+    if arms == 1 {
+        let x = inner::first_in(pairs, i + 1, j);
+        return single(bases, i, j, x, pairs[x] as usize);
+    }
+    Loop::Many(arms)
+}
+
+// What the loop that opens at i costs.
+pub fn charge_at(bases: &[u8], pairs: &[u16], i: usize) -> i32
+    requires { ⌜ Chargeable (now bases) (now pairs) × (i < length (now pairs)) × (opening i (view (now pairs) i) ≡ true) ⌝ }
+    ensures { λ r. ⌜ r ≡ chargeAt (view (now (bases .entry))) (view (now (pairs .entry))) i ⌝ }
+{
+    let j = pairs[i] as usize;
+    let x = inner::first_in(pairs, i + 1, j);
+    let y = pairs[x] as usize;
+    let kind = kind_at(bases, pairs, i);
+    let outer = bases::pair_index(bases[i], bases[j]);
+    let inner = bases::pair_index(bases[x], bases[y]);
+    charge(kind, outer, inner, purines(bases[i + 1], bases[j - 1]))
+}
+
+// What position i adds to the energy.
+fn share(bases: &[u8], pairs: &[u16], i: usize) -> i32
+    requires { ⌜ Chargeable (now bases) (now pairs) × (i < length (now pairs)) ⌝ }
+    ensures { λ r. ⌜ r ≡ cond (opening i (view (now (pairs .entry)) i)) (chargeAt (view (now (bases .entry))) (view (now (pairs .entry))) i) (pos 0) ⌝ }
+{
+    if inner::opens(i, pairs[i]) == 1 {
+        return charge_at(bases, pairs, i);
+    }
+    0
+}
+
+// The energy of a structure.
+pub fn energy_of(bases: &[u8], pairs: &[u16]) -> i32
+    requires { ⌜ Chargeable (now bases) (now pairs) ⌝ }
+    ensures { λ r. ⌜ r ≡ energyOf (now (bases .entry)) (now (pairs .entry)) ⌝ }
+{
+    let mut sum: i32 = 0;
+    let mut i: usize = 0;
+    while i < pairs.len() {
+        sum = ints::add(sum, share(bases, pairs, i));
+        i += 1;
+    }
+    sum
 }
