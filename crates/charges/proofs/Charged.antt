@@ -55,14 +55,15 @@ module _ (b : ℕ → ℕ) (i j x y : ℕ) where
   single-right h =
       either (leb (x - suc i) longestSide) (λ e. rw (e, lt-leb (j - suc y) longestSide h)) (λ e. rw e)
 
-  module _ (l : x - suc i ≤ longestSide) (r : j - suc y ≤ longestSide) where
-    pub single-own : leZ (own b i j x y) (manyOf 1) ≡ true → single b i j x y ≡ between (x - suc i) (j - suc y)
+  -- no side is too long, and z and m are the two figures
+  module _ (l : x - suc i ≤ longestSide) (r : j - suc y ≤ longestSide) (z m : ℤ) (ez : z ≡ own b i j x y) (em : m ≡ manyOf 1) where
+    pub single-own : leZ z m ≡ true → single b i j x y ≡ between (x - suc i) (j - suc y)
     unfolding single
-    single-own e = rw (le-leb (x - suc i) longestSide l, le-leb (j - suc y) longestSide r, e)
+    single-own e = rw (le-leb (x - suc i) longestSide l, le-leb (j - suc y) longestSide r, ← ez, ← em, e)
 
-    pub single-many : leZ (own b i j x y) (manyOf 1) ≡ false → single b i j x y ≡ Many 1
+    pub single-many : leZ z m ≡ false → single b i j x y ≡ Many 1
     unfolding single
-    single-many e = rw (le-leb (x - suc i) longestSide l, le-leb (j - suc y) longestSide r, e)
+    single-many e = rw (le-leb (x - suc i) longestSide l, le-leb (j - suc y) longestSide r, ← ez, ← em, e)
 
   -- what it costs
   data Single (z : ℤ) : Type 0 where
@@ -77,9 +78,9 @@ module _ (b : ℕ → ℕ) (i j x y : ℕ) where
       (λ h. by-cases (decLt longestSide (j - suc y))
       (λ g. rw (single-right g) (by-many refl (λ u v. absurd (omega arith))))
       (λ g. either (leZ (own b i j x y) (manyOf 1))
-      (λ e. rw (single-own (omega arith) (omega arith) e)
+      (λ e. rw (single-own (omega arith) (omega arith) (own b i j x y) (manyOf 1) refl refl e)
       (by-own (omega arith) (omega arith) (let t = le-yes (own b i j x y) (manyOf 1) e in omega ints) (between-any _ _ _ _ _)))
-      (λ e. rw (single-many (omega arith) (omega arith) e) (by-many refl (λ u v. let t = le-no (own b i j x y) (manyOf 1) e in omega ints)))))
+      (λ e. rw (single-many (omega arith) (omega arith) (own b i j x y) (manyOf 1) refl refl e) (by-many refl (λ u v. let t = le-no (own b i j x y) (manyOf 1) e in omega ints)))))
 
 -- ---- the loop that opens at i
 module _ (b p : ℕ → ℕ) (i : ℕ) where

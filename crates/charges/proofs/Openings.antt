@@ -7,11 +7,11 @@ use Prim.Native.Nat.{ℕ, zero, suc, _+_, _-_, _*_, _<_, _≤_}
 use native.Mathlib.Omega.{arith}
 use native.Mathlib.Numerals.{add-one}
 use native.Mathlib.Decide.{decLt, ℕ-discrete}
-use lib.Dec.{ltb, leb, eqb}
+use lib.Dec.{ltb, eqb}
 use lib.IntN.{ℤ, pos, negsuc, _+ℤ_}
 use lib.ListN.{length}
 use lib.Signed.{leZ, _≤ℤ_}
-use borrow.Author.Tests.{ltb-true, eqb-true, eq-eqb, ne-eqb, le-leb, lt-leb}
+use borrow.Author.Tests.{ltb-true, eq-eqb, ne-eqb}
 use Rattle.bases.specs.Bases.{canPair, pairIndex, isPurine}
 use Rattle.bases.proofs.Laws.{index-below}
 use Rattle.structure.specs.Table.{unpaired, view, opens, Fold}
@@ -19,9 +19,9 @@ use Rattle.structure.proofs.Folds as folds
 use Rattle.structure.proofs.Counts.{opens-none, opens-high}
 use Rattle.ints.specs.Ints.{In, Small}
 use Rattle.ints.proofs.Ints.{ints, sum, either}
-use Rattle.charges.specs.Figures.{smallestHairpin, longestSide, longest}
-use Rattle.charges.specs.Charge.{manyOf, chargeOf, Figured, figureMost, chargeMost}
-use Rattle.charges.specs.Loops.{mayClose, Candidate, opening, arms, armsIn, first, firstIn, between, own, single, kindBy, kind, purines, chargeBy, chargeAt, total, Chargeable}
+use Rattle.charges.specs.Figures.{smallestHairpin, longestSide}
+use Rattle.charges.specs.Charge.{manyOf, Figured, figureMost, chargeMost}
+use Rattle.charges.specs.Loops.{mayClose, opening, arms, armsIn, first, firstIn, between, own, single, kindBy, kind, purines, chargeBy, chargeAt, total, Chargeable}
 use Rattle.charges.specs.declared.Loop.{Loop}
 use Rattle.charges.proofs.Charges.{sides-reach, longest-low, term-low, charge-in}
 use Rattle.charges.proofs.Charged.{single-left, single-right, single-own, single-many}
@@ -137,8 +137,8 @@ single-figured b i j x y o n p d e =
     (λ h. by-cases (decLt longestSide (j - suc y))
     (λ g. rw (single-right b i j x y g) (omega arith, omega arith))
     (λ g. either (leZ (own b i j x y) (manyOf 1))
-    (λ q. rw (single-own b i j x y (omega arith) (omega arith) q) (between-figured (x - suc i) (j - suc y) o n p (omega arith) (omega arith) d e))
-    (λ q. rw (single-many b i j x y (omega arith) (omega arith) q) (omega arith, omega arith))))
+    (λ q. rw (single-own b i j x y (omega arith) (omega arith) (own b i j x y) (manyOf 1) refl refl q) (between-figured (x - suc i) (j - suc y) o n p (omega arith) (omega arith) d e))
+    (λ q. rw (single-many b i j x y (omega arith) (omega arith) (own b i j x y) (manyOf 1) refl refl q) (omega arith, omega arith))))
 
 -- ---- an opening place
 module _ (b t : List ℕ) (r : Chargeable b t) (i : ℕ) (h : i < length t) (o : opening i (view t i) ≡ true) where
@@ -258,7 +258,7 @@ module _ (b t : List ℕ) (r : Chargeable b t) (i : ℕ) (h : i < length t) (o :
         longest-low,
         term-low,
         charge-in (kind (view b) (view t) i) (pairIndex (view b i) (view b (view t i))) (pairIndex (view b x) (view b (view t x)))
-        (purines (view b (i + 1)) (view b (view t i - 1))) figured,
+            (purines (view b (i + 1)) (view b (view t i - 1))) figured,
       )
 
 -- ---- sums

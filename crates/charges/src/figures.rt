@@ -1,10 +1,16 @@
 // The figures of each kind of loop, read from the tables.
+use crate::ARM;
+use crate::CLOSING;
 use crate::tables::BULGE;
 use crate::tables::HAIRPIN;
 use crate::tables::INTERNAL;
 use crate::tables::LONG;
 use crate::tables::MISMATCH;
+use crate::tables::SLOPE;
+use crate::tables::SLOPE_MOST;
+use crate::tables::SMALLEST_HAIRPIN;
 use crate::tables::STACK;
+use crate::tables::TABLED;
 ghost use mathlib.Core.Path.{_≡_};
 ghost use Prim.Native.Nat.{ℕ, suc, _+_, _-_, _*_, _<_, _≤_, min};
 ghost use lib.IntN.{pos};
@@ -13,10 +19,7 @@ ghost use Rattle.ints.specs.Ints.{Small};
 ghost use Rattle.charges.specs.Figures.{smallestHairpin, tabled, longest, longestSide, slopeMost};
 ghost use Rattle.charges.specs.Charge.{mismatch, long, sized, hairpinOf, stackAt, bulgeOf, slant, internalOf, manyOf};
 
-// The largest size that has a figure of its own.
-const TABLED: usize = 30;
-
-// What a size above that adds to its figure.
+// What a size above 30 adds to the figure of 30.
 fn long_term(size: usize) -> i32
     requires { ⌜ (tabled < size) × (size ≤ longest) ⌝ }
     ensures { λ r. ⌜ r ≡ getD long (size - suc tabled) (pos 0) ⌝ }
@@ -36,7 +39,7 @@ fn sized(table: &[i32], first: usize, size: usize) -> i32
     ints::add(ints::cell(table, TABLED - first), long_term(size))
 }
 
-// By how much two of the bases just inside a hairpin lower its figure.
+// By how much the bases just inside a hairpin lower its figure.
 fn mismatched(purines: usize) -> i32
     requires { ⌜ purines ≤ 2 ⌝ }
     ensures { λ r. ⌜ r ≡ getD mismatch purines (pos 0) ⌝ }
@@ -44,13 +47,14 @@ fn mismatched(purines: usize) -> i32
     MISMATCH[purines]
 }
 
+// The two bases count from the next size after the smallest on.
 pub fn hairpin(size: usize, purines: usize) -> i32
     requires { ⌜ (smallestHairpin ≤ size) × (size ≤ longest) × (purines ≤ 2) ⌝ }
     ensures { λ r. ⌜ r ≡ hairpinOf size purines ⌝ }
 {
     let table = HAIRPIN;
-    let own = sized(&table, 3, size);
-    if size == 3 {
+    let own = sized(&table, SMALLEST_HAIRPIN, size);
+    if size == SMALLEST_HAIRPIN {
         return own;
     }
     ints::add(own, mismatched(purines))
@@ -63,6 +67,7 @@ pub fn stack(outer: usize, inner: usize) -> i32
     STACK[outer * 6 + inner]
 }
 
+// One of size 1 leaves its two pairs stacked.
 pub fn bulge(size: usize, outer: usize, inner: usize) -> i32
     requires { ⌜ (1 ≤ size) × (size ≤ longestSide) × (outer < 6) × (inner < 6) ⌝ }
     ensures { λ r. ⌜ r ≡ bulgeOf size outer inner ⌝ }
@@ -90,7 +95,11 @@ fn apart(left: usize, right: usize) -> usize
 fn capped(tenths: usize) -> usize
     ensures { λ r. ⌜ r ≡ min tenths slopeMost ⌝ }
 {
-    if tenths < 30 { tenths } else { 30 }
+    if tenths < SLOPE_MOST {
+        tenths
+    } else {
+        SLOPE_MOST
+    }
 }
 
 // What the difference of the sides adds.
@@ -98,7 +107,7 @@ fn slanted(left: usize, right: usize) -> i32
     requires { ⌜ (left ≤ longestSide) × (right ≤ longestSide) ⌝ }
     ensures { λ r. ⌜ r ≡ pos (slant left right) ⌝ }
 {
-    (100 * capped(3 * apart(left, right))) as i32
+    (100 * capped(SLOPE * apart(left, right))) as i32
 }
 
 pub fn internal(left: usize, right: usize) -> i32
@@ -114,5 +123,5 @@ pub fn many(arms: usize) -> i32
     requires { ⌜ arms ≤ longest ⌝ }
     ensures { λ r. ⌜ r ≡ manyOf arms ⌝ }
 {
-    (3800 + 400 * arms) as i32
+    (CLOSING + ARM * arms) as i32
 }

@@ -13,7 +13,12 @@ ghost use Rattle.bases.specs.Bases.{canPair};
 ghost use Rattle.structure.specs.Table.{view};
 ghost use Rattle.charges.specs.Figures.{smallestHairpin, longestSide, longest};
 ghost use Rattle.charges.specs.Charge.{chargeOf, Figured};
-ghost use Rattle.charges.specs.Loops.{mayClose, opening, between, own, single, kind, purines, hairpinAt, chargeAt, energyOf, Chargeable};
+ghost use Rattle.charges.specs.Loops.{opening, between, own, single, kind, purines, hairpinAt, chargeAt, energyOf, Chargeable};
+
+// What closing a many-armed loop costs, and each of its inner pairs.
+pub const CLOSING: usize = 3800;
+
+pub const ARM: usize = 400;
 
 // The longest side of a bulge or an internal loop.
 pub const LONGEST_SIDE: usize = 29;
@@ -59,7 +64,12 @@ pub fn hairpin_at(bases: &[u8], i: usize, j: usize) -> i32
     requires { ⌜ (j < length (now bases)) × (smallestHairpin < j - i) × (j - suc i ≤ longest) ⌝ }
     ensures { λ r. ⌜ r ≡ hairpinAt (view (now (bases .entry))) i j ⌝ }
 {
-    charge(Loop::Hairpin(j - (i + 1)), 0, 0, purines(bases[i + 1], bases[j - 1]))
+    charge(
+        Loop::Hairpin(j - (i + 1)),
+        0,
+        0,
+        purines(bases[i + 1], bases[j - 1]),
+    )
 }
 
 // The kind of a loop with one inner pair, by its sides.

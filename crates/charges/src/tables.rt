@@ -1,4 +1,11 @@
 // The figures in thousandths of kcal/mol: specs/Figures.antt has them as tenths, and the contracts of figures.rt tie the two together.
+// The smallest hairpin.
+pub const SMALLEST_HAIRPIN: usize = 3;
+
+// The largest size that has a figure of its own.
+pub const TABLED: usize = 30;
+
+// Hairpins, from the smallest to size 30.
 pub const HAIRPIN: [i32; 28] = [
     5400,
     5600,
@@ -30,6 +37,10 @@ pub const HAIRPIN: [i32; 28] = [
     6600,
 ];
 
+// None, one or both of the bases just inside a hairpin's closing pair are purines.
+pub const MISMATCH: [i32; 3] = [0, -400, -800];
+
+// Bulges, sizes 1 to 30.
 pub const BULGE: [i32; 30] = [
     3800,
     2800,
@@ -63,6 +74,7 @@ pub const BULGE: [i32; 30] = [
     6000,
 ];
 
+// Internal loops, sizes 2 to 30.
 pub const INTERNAL: [i32; 29] = [
     0,
     0,
@@ -95,6 +107,12 @@ pub const INTERNAL: [i32; 29] = [
     3600,
 ];
 
+// Tenths for each base by which the sides of an internal loop differ, and the most of this.
+pub const SLOPE: usize = 3;
+
+pub const SLOPE_MOST: usize = 30;
+
+// Stacks, rows by the outer pair, columns by the inner, order AU UA GC CG GU UG.
 pub const STACK: [i32; 36] = [
     -900,
     -1100,
@@ -134,6 +152,7 @@ pub const STACK: [i32; 36] = [
     -500,
 ];
 
+// The terms of sizes 31, 32, ..
 pub const LONG: [i32; 224] = [
     35,
     70,
@@ -360,5 +379,3 @@ pub const LONG: [i32; 224] = [
     2300,
     2304,
 ];
-
-pub const MISMATCH: [i32; 3] = [0, -400, -800];

@@ -1,9 +1,9 @@
 -- `charges::charge` meets its contract: in each arm the loop is the one that was matched, and its figure is the definition's.
-use Rattle.charges.specs.Charge.{chargeOf, Figured}
-use Rattle.charges.specs.declared.Loop.{Loop}
-use Rattle.ints.proofs.Ints.{is}
 use mathlib.Core.Path.{_∙_, sym, ap, subst}
 use borrow.Author.Needs.{needs}
+use Rattle.ints.proofs.Ints.{is}
+use Rattle.charges.specs.Charge.{chargeOf, Figured}
+use Rattle.charges.specs.declared.Loop.{Loop}
 use Rattle.charges.proofs.charge.Statement.{statement}
 use Rattle.charges.proofs.charge.Tie as tie
 

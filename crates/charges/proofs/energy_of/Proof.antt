@@ -1,20 +1,17 @@
-use Rattle.charges.proofs.Openings.{total-none, total-more, total-small, share-small}
-use Rattle.charges.specs.Loops.{total}
-use Rattle.ints.proofs.Ints.{ints, plain, is}
-use Rattle.structure.specs.Table.{view}
-use mir.Val.{toZ}
-use mir.Syntax.{w32}
-use lib.ListN.{length}
-use denote.Ref.{now}
-use native.Mathlib.Omega.{arith}
-use Prim.Native.Nat.{_≤_, _-_}
+-- `charges::energy_of` meets its contract. The loop's invariant: the sum is that of the loops that open before i, which stays small.
 use mathlib.Core.Path.{_≡_, sym, ap, _∙_}
+use Prim.Native.Nat.{_≤_, _-_}
+use native.Mathlib.Omega.{arith}
+use lib.ListN.{length}
+use mir.Syntax.{w32}
+use mir.Val.{toZ}
+use denote.Ref.{now}
+use Rattle.structure.specs.Table.{view}
+use Rattle.ints.proofs.Ints.{plain, is}
+use Rattle.charges.specs.Loops.{total}
+use Rattle.charges.proofs.Openings.{total-none, total-more, total-small, share-small}
 use Rattle.charges.proofs.energy_of.Statement.{statement}
 use Rattle.charges.proofs.energy_of.Tie as tie
-use Rattle.charges.proofs.energy_of.Reads as reads
-use Rattle.charges.proofs.energy_of.Lts as lts
-use Rattle.charges.proofs.share.Reads as share-reads
-use Rattle.ints.proofs.add.Reads as add-reads
 
 abbrev Inv-loop : tie.InvT-loop
 Inv-loop bases pairs sum₀ i₀ sum i = (i ≤ length pairs) × (toZ w32 sum ≡ total (view bases) (view pairs) i)
@@ -22,15 +19,12 @@ Inv-loop bases pairs sum₀ i₀ sum i = (i ≤ length pairs) × (toZ w32 sum �
 abbrev μ-loop : tie.MeasureT-loop
 μ-loop bases pairs sum₀ i₀ sum i = length pairs - i
 
--- src/lib.rt:162:5
 loop-holds : tie.Need-loop-holds Inv-loop μ-loop
 loop-holds c = (omega arith, sym (total-none _ _))
 
--- src/lib.rt:163:30
 share-requires : tie.Need-share-requires Inv-loop μ-loop
 share-requires c κs = (c .before .before .before .before .pre, omega arith)
 
--- src/lib.rt:163:9
 add-requires : tie.Need-add-requires Inv-loop μ-loop
 add-requires c κs =
     let l = c .before .before in
@@ -40,15 +34,12 @@ add-requires c κs =
     let r = c .share in
     (rw (l .loop .inv .1) (total-small b t (s .pre) (l .loop .i) (omega arith)), rw (is (r .result) (r .ok) (r .ensures)) (share-small b t (s .pre) (l .loop .i) (omega arith)))
 
--- src/lib.rt:164:9
 add-i : tie.Need-add-i Inv-loop μ-loop
 add-i c = omega arith
 
--- src/lib.rt:162:5
 loop-less : tie.Need-loop-less Inv-loop μ-loop
 loop-less c = omega arith
 
--- src/lib.rt:162:5
 loop-again : tie.Need-loop-again Inv-loop μ-loop
 loop-again c =
     let l = c .before .before .before in
@@ -56,7 +47,6 @@ loop-again c =
     let r = c .before .share in
     (omega arith, cc (plain (c .add .result) (c .add .ok), plain (r .result) (r .ok), total-more (view (now (s .args .bases))) (view (now (s .args .pairs))) (l .loop .i)))
 
--- src/lib.rt:156:1
 returns : tie.Need-returns Inv-loop μ-loop
 returns c =
     let l = c .before in

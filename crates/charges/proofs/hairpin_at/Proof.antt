@@ -1,55 +1,43 @@
-use Rattle.charges.proofs.Openings.{purines-le}
-use Rattle.charges.proofs.Charged.{hairpin-is}
-use Rattle.ints.proofs.Ints.{is}
-use Rattle.structure.specs.Table.{view}
-use denote.Ref.{now}
-use Prim.Native.Nat.{_+_, _-_}
+-- `charges::hairpin_at` meets its contract: the size and the two bases are the definition's.
 use mathlib.Core.Path.{_∙_}
+use Prim.Native.Nat.{_+_, _-_}
 use native.Mathlib.Omega.{arith}
 use borrow.Author.Needs.{needs}
+use denote.Ref.{now}
+use Rattle.structure.specs.Table.{view}
+use Rattle.ints.proofs.Ints.{is}
+use Rattle.charges.proofs.Charged.{hairpin-is}
+use Rattle.charges.proofs.Openings.{purines-le}
 use Rattle.charges.proofs.hairpin_at.Statement.{statement}
 use Rattle.charges.proofs.hairpin_at.Tie as tie
-use Rattle.charges.proofs.hairpin_at.Reads as reads
-use Rattle.charges.proofs.hairpin_at.Lts as lts
-use Rattle.charges.proofs.charge.Reads as charge-reads
-use Rattle.charges.proofs.purines.Reads as purines-reads
 
--- src/lib.rt:62:31
 add-t4 : tie.Need-add-t4
 add-t4 c = search needs
 
--- src/lib.rt:62:26
 sub-t5 : tie.Need-sub-t5
 sub-t5 c = search needs
 
--- src/lib.rt:62:60
 add-purines : tie.Need-add-purines
 add-purines c = search needs
 
--- src/lib.rt:62:54
 shared-slice-read-purines : tie.Need-shared-slice-read-purines
 shared-slice-read-purines c = search needs
 
--- src/lib.rt:62:74
 sub-purines : tie.Need-sub-purines
 sub-purines c = search needs
 
--- src/lib.rt:62:68
 shared-slice-read-purines-2 : tie.Need-shared-slice-read-purines-2
 shared-slice-read-purines-2 c = search needs
 
--- src/lib.rt:62:46
 purines-requires : tie.Need-purines-requires
 purines-requires c κs = search needs
 
--- src/lib.rt:62:5
 charge-requires : tie.Need-charge-requires
 charge-requires c κs =
     let a = c .before .before .before .before .args in
     let b = view (now (a .bases)) in
     (omega arith, omega arith, omega (arith, c .purines .ensures, purines-le (b (a .i + 1)) (b (a .j - 1))))
 
--- src/lib.rt:58:1
 returns : tie.Need-returns
 returns c =
     let a = c .before .before .before .before .before .args in

@@ -1,73 +1,48 @@
-use Rattle.charges.proofs.Charged.{kind-none, kind-one, kind-more}
-use Rattle.charges.proofs.Openings.{close-pair, inner-at, first-at}
-use Rattle.charges.specs.declared.Loop.the-variants.{Hairpin, Many}
-use Rattle.charges.proofs.Openings.{closes}
-use Rattle.structure.specs.Table.{view}
-use lib.ListN.{length}
-use denote.Ref.{now}
+-- `charges::kind_at` meets its contract: the number of arms decides, and the inside of the pair folds, so that the walk along it is allowed.
+use mathlib.Core.Path.{_≡_, sym, ap, _∙_}
 use Prim.Native.Nat.{ℕ, suc, _+_, _-_}
-use mathlib.Core.Path.{_≡_, sym, ap, ap₂, _∙_}
 use native.Mathlib.Numerals.{add-one}
 use native.Mathlib.Omega.{arith}
 use borrow.Author.Needs.{needs}
+use denote.Ref.{now}
+use Rattle.structure.specs.Table.{view}
+use Rattle.charges.specs.Loops.{firstIn}
+use Rattle.charges.specs.declared.Loop.the-variants.{Hairpin, Many}
+use Rattle.charges.proofs.Charged.{kind-none, kind-one, kind-more}
+use Rattle.charges.proofs.Openings.{Closes, Foremost, close-pair, inner-at, first-at, closes}
 use Rattle.charges.proofs.kind_at.Statement.{statement}
 use Rattle.charges.proofs.kind_at.Tie as tie
-use Rattle.charges.proofs.kind_at.Reads as reads
-use Rattle.charges.proofs.kind_at.Lts as lts
-use Rattle.charges.proofs.inner.arms_in.Reads as arms-in-reads
-use Rattle.charges.proofs.inner.first_in.Reads as first-in-reads
-use Rattle.charges.proofs.single.Reads as single-reads
 
--- src/lib.rt:118:13
+-- the pair that opens at i
+place : (s : tie.Start) → Closes (now (s .args .bases)) (now (s .args .pairs)) (s .pre .0) (s .args .i) (s .pre .1) (s .pre .2)
+place s = closes (now (s .args .bases)) (now (s .args .pairs)) (s .pre .0) (s .args .i) (s .pre .1) (s .pre .2)
+
+-- the first place found inside it is in reach
+reach : (s : tie.Start) (x : ℕ) → x ≡ firstIn (view (now (s .args .pairs))) (s .args .i + 1) (view (now (s .args .pairs)) (s .args .i))
+    → Foremost (now (s .args .bases)) (now (s .args .pairs)) (s .pre .0) (s .args .i) (s .pre .1) (s .pre .2) x
+reach s x e = first-at (now (s .args .bases)) (now (s .args .pairs)) (s .pre .0) (s .args .i) (s .pre .1) (s .pre .2) x e
+
 mul-j : tie.Need-mul-j
 mul-j c = search needs
 
--- src/lib.rt:118:13
 shared-slice-read-j : tie.Need-shared-slice-read-j
 shared-slice-read-j c = search needs
 
--- src/lib.rt:118:13
 cast-j : tie.Need-cast-j
-cast-j c =
-    let s = c .before .before .before in
-    let a = s .args in
-    let k = closes (now (a .bases)) (now (a .pairs)) (s .pre .0) (a .i) (s .pre .1) (s .pre .2) in
-    let u = k .up in
-    let w = k .within in
-    let e = s .pre .0 .bases in
-    omega arith
+cast-j c = let k = place (c .before .before .before) in omega arith
 
--- src/lib.rt:119:38
 add-arms-in : tie.Need-add-arms-in
 add-arms-in c = search needs
 
--- src/lib.rt:119:9
 arms-in-requires : tie.Need-arms-in-requires
-arms-in-requires c κs =
-    let s = c .before .before .before in
-    let a = s .args in
-    let k = closes (now (a .bases)) (now (a .pairs)) (s .pre .0) (a .i) (s .pre .1) (s .pre .2) in
-    let u = k .up in
-    let w = k .within in
-    let e = s .pre .0 .bases in
-    (omega arith, omega arith, rw (add-one (a .i)) (k .inner))
+arms-in-requires c κs = let k = place (c .before .before .before) in (omega arith, omega arith, rw (add-one (c .before .before .before .args .i)) (k .inner))
 
--- src/lib.rt:121:35
 add-t11 : tie.Need-add-t11
 add-t11 c = search needs
 
--- src/lib.rt:121:30
 sub-t12 : tie.Need-sub-t12
-sub-t12 c =
-    let s = c .before .before .before .before .before in
-    let a = s .args in
-    let k = closes (now (a .bases)) (now (a .pairs)) (s .pre .0) (a .i) (s .pre .1) (s .pre .2) in
-    let u = k .up in
-    let w = k .within in
-    let e = s .pre .0 .bases in
-    omega arith
+sub-t12 c = let k = place (c .before .before .before .before .before) in omega arith
 
--- src/lib.rt:121:9
 returns : tie.Need-returns
 returns c =
     let a = c .before .before .before .before .before .args in
@@ -75,81 +50,43 @@ returns c =
     let e : (view (a .pairs .now) (a .i)) - (a .i + 1) ≡ (view (a .pairs .now) (a .i)) - suc (a .i) = omega arith in
     ap Hairpin e ∙ sym (kind-none (view (now (a .bases))) (view (now (a .pairs))) (a .i) (sym (rw (add-one (a .i)) at (m .ensures)) ∙ c .if1 .taken))
 
--- src/lib.rt:124:40
 add-first-in : tie.Need-add-first-in
 add-first-in c = search needs
 
--- src/lib.rt:124:13
 first-in-requires : tie.Need-first-in-requires
-first-in-requires c κs =
-    let s = c .before .before .before .before .before .before in
-    let a = s .args in
-    let k = closes (now (a .bases)) (now (a .pairs)) (s .pre .0) (a .i) (s .pre .1) (s .pre .2) in
-    let u = k .up in
-    let w = k .within in
-    let e = s .pre .0 .bases in
-    (omega arith, omega arith)
+first-in-requires c κs = let k = place (c .before .before .before .before .before .before) in (omega arith, omega arith)
 
--- src/lib.rt:125:39
 mul-single : tie.Need-mul-single
 mul-single c =
     let s = c .before .before .before .before .before .before .before in
-    let a = s .args in
-    let k = closes (now (a .bases)) (now (a .pairs)) (s .pre .0) (a .i) (s .pre .1) (s .pre .2) in
-    let u = k .up in
-    let w = k .within in
-    let e = s .pre .0 .bases in
-    let x = c .first-in in
-    let q = first-at (now (a .bases)) (now (a .pairs)) (s .pre .0) (a .i) (s .pre .1) (s .pre .2) (x .result) (x .ensures) in
-    let v = q .to in
-    let z = q .mate in
+    let k = place s in
+    let q = reach s (c .first-in .result) (c .first-in .ensures) in
     omega arith
 
--- src/lib.rt:125:39
 shared-slice-read-single : tie.Need-shared-slice-read-single
 shared-slice-read-single c =
     let s = c .before .before .before .before .before .before .before .before in
-    let a = s .args in
-    let k = closes (now (a .bases)) (now (a .pairs)) (s .pre .0) (a .i) (s .pre .1) (s .pre .2) in
-    let u = k .up in
-    let w = k .within in
-    let e = s .pre .0 .bases in
-    let x = c .before .first-in in
-    let q = first-at (now (a .bases)) (now (a .pairs)) (s .pre .0) (a .i) (s .pre .1) (s .pre .2) (x .result) (x .ensures) in
-    let v = q .to in
-    let z = q .mate in
+    let k = place s in
+    let q = reach s (c .before .first-in .result) (c .before .first-in .ensures) in
     omega arith
 
--- src/lib.rt:125:39
 cast-single : tie.Need-cast-single
 cast-single c =
     let s = c .before .before .before .before .before .before .before .before in
-    let a = s .args in
-    let k = closes (now (a .bases)) (now (a .pairs)) (s .pre .0) (a .i) (s .pre .1) (s .pre .2) in
-    let u = k .up in
-    let w = k .within in
-    let e = s .pre .0 .bases in
-    let x = c .before .first-in in
-    let q = first-at (now (a .bases)) (now (a .pairs)) (s .pre .0) (a .i) (s .pre .1) (s .pre .2) (x .result) (x .ensures) in
-    let v = q .to in
-    let z = q .mate in
+    let k = place s in
+    let q = reach s (c .before .first-in .result) (c .before .first-in .ensures) in
     omega arith
 
--- src/lib.rt:125:9
 single-requires : tie.Need-single-requires
 single-requires c κs =
     let s = c .before .before .before .before .before .before .before .before in
     let a = s .args in
-    let k = closes (now (a .bases)) (now (a .pairs)) (s .pre .0) (a .i) (s .pre .1) (s .pre .2) in
-    let u = k .up in
-    let w = k .within in
-    let e = s .pre .0 .bases in
+    let k = place s in
     let x = c .before .first-in in
     let m = c .before .before .before .before .arms-in in
     let q = inner-at (now (a .bases)) (now (a .pairs)) (s .pre .0) (a .i) (s .pre .1) (s .pre .2) (x .result) (m .result) (m .ensures) (c .before .before .if2 .taken) (x .ensures) in
     ((q .from, q .up, q .to, omega arith), (close-pair _ _ _ (k .may), close-pair _ _ _ (q .may)))
 
--- src/lib.rt:125:9
 returns-2 : tie.Need-returns-2
 returns-2 c =
     let a = c .before .before .before .before .before .before .before .before .before .args in
@@ -158,7 +95,6 @@ returns-2 c =
     let e = sym (rw (add-one (a .i)) at (m .ensures)) ∙ c .before .before .before .if2 .taken in
     c .single .ensures ∙ rw (rw (add-one (a .i)) at (x .ensures)) (sym (kind-one (view (now (a .bases))) (view (now (a .pairs))) (a .i) e))
 
--- src/lib.rt:114:1
 returns-3 : tie.Need-returns-3
 returns-3 c =
     let a = c .before .before .before .before .before .before .args in

@@ -1,68 +1,52 @@
-use Rattle.charges.proofs.Openings.{between-figured}
-use Rattle.charges.proofs.Charged.{own-is}
-use Rattle.charges.specs.Charge.{Figured}
-use Rattle.charges.specs.declared.Loop.{Loop}
-use Rattle.ints.proofs.Ints.{is}
-use Rattle.structure.specs.Table.{view}
-use Rattle.bases.proofs.Laws.{index-below}
-use denote.Ref.{now}
-use Prim.Native.Nat.{_+_, _-_}
+-- `charges::own` meets its contract: the sides and the numbers of the pairs are the definition's, and such a loop has a figure.
 use mathlib.Core.Path.{sym, subst, _∙_}
+use Prim.Native.Nat.{_+_, _-_}
 use native.Mathlib.Omega.{arith}
 use borrow.Author.Needs.{needs}
+use denote.Ref.{now}
+use Rattle.bases.proofs.Laws.{index-below}
+use Rattle.structure.specs.Table.{view}
+use Rattle.ints.proofs.Ints.{is}
+use Rattle.charges.specs.Charge.{Figured}
+use Rattle.charges.specs.declared.Loop.{Loop}
+use Rattle.charges.proofs.Charged.{own-is}
+use Rattle.charges.proofs.Openings.{between-figured}
 use Rattle.charges.proofs.own.Statement.{statement}
 use Rattle.charges.proofs.own.Tie as tie
-use Rattle.charges.proofs.own.Reads as reads
-use Rattle.charges.proofs.own.Lts as lts
-use Rattle.bases.proofs.pair_index.Reads as pair-index-reads
-use Rattle.charges.proofs.between.Reads as between-reads
-use Rattle.charges.proofs.charge.Reads as charge-reads
 
--- src/lib.rt:87:35
 shared-slice-read-pair-index : tie.Need-shared-slice-read-pair-index
 shared-slice-read-pair-index c = search needs
 
--- src/lib.rt:87:45
 shared-slice-read-pair-index-2 : tie.Need-shared-slice-read-pair-index-2
 shared-slice-read-pair-index-2 c = search needs
 
--- src/lib.rt:87:9
 pair-index-requires : tie.Need-pair-index-requires
 pair-index-requires c κs = search needs
 
--- src/lib.rt:88:35
 shared-slice-read-pair-index-3 : tie.Need-shared-slice-read-pair-index-3
 shared-slice-read-pair-index-3 c = search needs
 
--- src/lib.rt:88:45
 shared-slice-read-pair-index-4 : tie.Need-shared-slice-read-pair-index-4
 shared-slice-read-pair-index-4 c = search needs
 
--- src/lib.rt:88:9
 pair-index-requires-2 : tie.Need-pair-index-requires-2
 pair-index-requires-2 c κs = search needs
 
--- src/lib.rt:89:29
 add-between : tie.Need-add-between
 add-between c = search needs
 
--- src/lib.rt:89:24
 sub-between : tie.Need-sub-between
 sub-between c = search needs
 
--- src/lib.rt:89:42
 add-between-2 : tie.Need-add-between-2
 add-between-2 c = search needs
 
--- src/lib.rt:89:37
 sub-between-2 : tie.Need-sub-between-2
 sub-between-2 c = search needs
 
--- src/lib.rt:89:9
 between-requires : tie.Need-between-requires
 between-requires c κs = search needs
 
--- src/lib.rt:90:5
 charge-requires : tie.Need-charge-requires
 charge-requires c κs =
     let s = c .before .before .before .before .before .before .before .before in
@@ -75,7 +59,6 @@ charge-requires c κs =
     (omega (arith, o .ensures, index-below (b (a .i)) (b (a .j)) (s .pre .1 .0)))
     (omega (arith, n .ensures, index-below (b (a .x)) (b (a .y)) (s .pre .1 .1))))
 
--- src/lib.rt:82:1
 returns : tie.Need-returns
 returns c =
     let a = c .before .before .before .before .before .before .before .before .before .args in

@@ -1,38 +1,29 @@
-use Rattle.charges.proofs.Openings.{one-le}
-use Rattle.charges.specs.Loops.{purines}
-use Prim.Native.Nat.{ℕ, _+_}
+-- `charges::purines` meets its contract: each base counts as its test says.
 use mathlib.Core.Bool.{Bool, cond}
 use mathlib.Core.Path.{ap, ap₂, _∙_}
+use Prim.Native.Nat.{ℕ, _+_}
 use native.Mathlib.Omega.{arith}
 use borrow.Author.Needs.{needs}
+use Rattle.charges.specs.Loops.{purines}
+use Rattle.charges.proofs.Openings.{one-le}
 use Rattle.charges.proofs.purines.Statement.{statement}
 use Rattle.charges.proofs.purines.Tie as tie
-use Rattle.charges.proofs.purines.Reads as reads
-use Rattle.charges.proofs.purines.Lts as lts
-use Rattle.bases.proofs.is_purine.Reads as is-purine-reads
-use Rattle.charges.proofs.counted.Reads as counted-reads
 
--- src/lib.rt:54:13
 is-purine-requires : tie.Need-is-purine-requires
 is-purine-requires c κs = search needs
 
--- src/lib.rt:54:5
 counted-requires : tie.Need-counted-requires
 counted-requires c κs = search needs
 
--- src/lib.rt:54:44
 is-purine-requires-2 : tie.Need-is-purine-requires-2
 is-purine-requires-2 c κs = search needs
 
--- src/lib.rt:54:36
 counted-requires-2 : tie.Need-counted-requires-2
 counted-requires-2 c κs = search needs
 
--- src/lib.rt:54:5
 add-result : tie.Need-add-result
 add-result c = omega (arith, c .before .before .counted .ensures, c .counted2 .ensures, one-le (c .before .before .before .is-purine .result), one-le (c .before .is-purine2 .result))
 
--- src/lib.rt:51:1
 returns : tie.Need-returns
 unfolding purines
 returns c =

@@ -1,37 +1,28 @@
-use Rattle.ints.proofs.Ints.{is}
-use borrow.Author.Tests.{eq-eqb, ne-eqb}
+-- `charges::share` meets its contract: the test decides between the charge and 0.
 use mathlib.Core.Path.{sym, _∙_}
 use borrow.Author.Needs.{needs}
+use borrow.Author.Tests.{eq-eqb, ne-eqb}
+use Rattle.ints.proofs.Ints.{is}
 use Rattle.charges.proofs.share.Statement.{statement}
 use Rattle.charges.proofs.share.Tie as tie
-use Rattle.charges.proofs.share.Reads as reads
-use Rattle.charges.proofs.share.Lts as lts
-use Rattle.charges.proofs.charge_at.Reads as charge-at-reads
-use Rattle.charges.proofs.inner.opens.Reads as opens-reads
 
--- src/lib.rt:149:24
 mul-opens : tie.Need-mul-opens
 mul-opens c = search needs
 
--- src/lib.rt:149:24
 shared-slice-read-opens : tie.Need-shared-slice-read-opens
 shared-slice-read-opens c = search needs
 
--- src/lib.rt:149:8
 opens-requires : tie.Need-opens-requires
 opens-requires c κs = search needs
 
--- src/lib.rt:150:9
 charge-at-requires : tie.Need-charge-at-requires
 charge-at-requires c κs = let s = c .before .before .before .before .before in (s .pre .0, s .pre .1, eq-eqb _ 1 (sym (c .before .opens .ensures) ∙ c .if1 .taken))
 
--- src/lib.rt:150:9
 returns : tie.Need-returns
 returns c =
     let r = c .charge-at in
     rw (eq-eqb _ 1 (sym (c .before .before .opens .ensures) ∙ c .before .if1 .taken)) (is (r .result) (r .ok) (r .ensures))
 
--- src/lib.rt:145:1
 returns-2 : tie.Need-returns-2
 returns-2 c = rw (ne-eqb _ 1 (λ q. c .if1 .left (c .before .opens .ensures ∙ q)))
 

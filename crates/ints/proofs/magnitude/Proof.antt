@@ -1,7 +1,7 @@
 -- `ints::magnitude` meets its contract: a small number turned round fits, so neither cast loses anything.
-use borrow.Author.Needs.{needs}
 use lib.IntN.{ℤ, pos, _-ℤ_}
 use lib.Signed.{_≤ℤ_}
+use borrow.Author.Needs.{needs}
 use Rattle.ints.proofs.Ints.{ints, diff, bk, back, lt-yes, lt-no, nonNeg-is, natAbs-pos, natAbs-neg}
 use Rattle.ints.proofs.magnitude.Statement.{statement}
 use Rattle.ints.proofs.magnitude.Tie as tie

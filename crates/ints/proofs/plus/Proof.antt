@@ -1,9 +1,9 @@
 -- `ints::plus` meets its contract: two numbers below the mark are added, and fit since each is small; a mark makes the sum the mark.
 use mathlib.Core.Path.{_∙_, sym}
 use lib.IntN.{_+ℤ_}
+use Rattle.ints.specs.Ints.{mark}
 use Rattle.ints.proofs.Ints.{ints, sum, bk, plain, lt-yes, lt-no}
 use Rattle.ints.proofs.Minima.{add-some, add-none-l, add-none-r}
-use Rattle.ints.specs.Ints.{mark}
 use Rattle.ints.proofs.plus.Statement.{statement}
 use Rattle.ints.proofs.plus.Tie as tie
 

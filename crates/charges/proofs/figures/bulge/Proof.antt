@@ -1,10 +1,10 @@
 -- `charges::figures::bulge` meets its contract: the table lent to `sized` is the list of figures, and only size 1 has the stack.
-use Rattle.charges.proofs.Charges.{sides-reach, term-low, sized-in, bulge-in, stackAt-in, bulge-one, bulge-other}
-use Rattle.charges.specs.Figures as fig
-use Rattle.charges.specs.Charge.{bulge}
-use Rattle.ints.proofs.Ints.{ints, plain, back}
 use native.Mathlib.Omega.{arith}
 use borrow.Author.Needs.{needs}
+use Rattle.ints.proofs.Ints.{ints, plain, back}
+use Rattle.charges.specs.Figures as fig
+use Rattle.charges.specs.Charge.{bulge}
+use Rattle.charges.proofs.Charges.{sides-reach, term-low, sized-in, bulge-in, stackAt-in, bulge-one, bulge-other}
 use Rattle.charges.proofs.figures.bulge.Statement.{statement}
 use Rattle.charges.proofs.figures.bulge.Tie as tie
 

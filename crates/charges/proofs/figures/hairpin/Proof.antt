@@ -1,10 +1,10 @@
 -- `charges::figures::hairpin` meets its contract: the table lent to `sized` is the list of figures, and only the smallest goes without the mismatch.
-use Rattle.charges.proofs.Charges.{term-low, sized-in, hairpin-in, mismatch-in, hairpin-smallest, hairpin-other}
-use Rattle.charges.specs.Figures as fig
-use Rattle.charges.specs.Charge.{hairpin}
-use Rattle.ints.proofs.Ints.{ints, plain, back}
 use native.Mathlib.Omega.{arith}
 use borrow.Author.Needs.{needs}
+use Rattle.ints.proofs.Ints.{ints, plain, back}
+use Rattle.charges.specs.Figures as fig
+use Rattle.charges.specs.Charge.{hairpin}
+use Rattle.charges.proofs.Charges.{term-low, sized-in, hairpin-in, mismatch-in, hairpin-smallest, hairpin-other}
 use Rattle.charges.proofs.figures.hairpin.Statement.{statement}
 use Rattle.charges.proofs.figures.hairpin.Tie as tie
 

@@ -1,11 +1,11 @@
 -- `charges::figures::internal` meets its contract: the table lent to `sized` is the list of figures, and the slant is added.
-use Rattle.charges.proofs.Charges.{sides-reach, term-low, sized-in, internal-in, slant-le}
-use Rattle.charges.specs.Figures as fig
-use Rattle.charges.specs.Charge.{internal, internalOf}
-use Rattle.ints.proofs.Ints.{ints, plain, back}
 use Prim.Native.Nat.{_+_}
 use native.Mathlib.Omega.{arith}
 use borrow.Author.Needs.{needs}
+use Rattle.ints.proofs.Ints.{ints, plain, back}
+use Rattle.charges.specs.Figures as fig
+use Rattle.charges.specs.Charge.{internal, internalOf}
+use Rattle.charges.proofs.Charges.{sides-reach, term-low, sized-in, internal-in, slant-le}
 use Rattle.charges.proofs.figures.internal.Statement.{statement}
 use Rattle.charges.proofs.figures.internal.Tie as tie
 

@@ -1,13 +1,13 @@
 -- `charges::figures::long_term` meets its contract: the table of the code is the list of terms, and as long.
+use Prim.Native.Nat.{_-_}
+use native.Mathlib.Omega.{arith}
+use lib.IntN.{pos}
+use lib.ListN.{getD}
+use borrow.Author.Needs.{needs}
+use Rattle.ints.proofs.Ints.{plain}
 use Rattle.charges.specs.Figures as fig
 use Rattle.charges.specs.Charge.{long}
 use Rattle.charges.proofs.Charges.{longest-low}
-use Rattle.ints.proofs.Ints.{plain}
-use lib.ListN.{getD}
-use lib.IntN.{pos}
-use Prim.Native.Nat.{_-_}
-use native.Mathlib.Omega.{arith}
-use borrow.Author.Needs.{needs}
 use Rattle.charges.proofs.figures.long_term.Statement.{statement}
 use Rattle.charges.proofs.figures.long_term.Tie as tie
 

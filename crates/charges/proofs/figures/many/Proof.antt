@@ -1,9 +1,9 @@
 -- `charges::figures::many` meets its contract: so few arms cost less than 32 bits hold.
-use Rattle.charges.specs.Charge.{manyOf}
-use Rattle.charges.proofs.Charges.{longest-low}
+use native.Mathlib.Omega.{arith}
 use mir.Facts.{toZ-pos}
 use mir.Syntax.{w32}
-use native.Mathlib.Omega.{arith}
+use Rattle.charges.specs.Charge.{manyOf}
+use Rattle.charges.proofs.Charges.{longest-low}
 use Rattle.charges.proofs.figures.many.Statement.{statement}
 use Rattle.charges.proofs.figures.many.Tie as tie
 

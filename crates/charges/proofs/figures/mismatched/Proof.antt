@@ -1,10 +1,10 @@
 -- `charges::figures::mismatched` meets its contract: the table of the code is the list of figures.
+use lib.IntN.{pos}
+use lib.ListN.{getD}
+use borrow.Author.Needs.{needs}
+use Rattle.ints.proofs.Ints.{plain}
 use Rattle.charges.specs.Figures as fig
 use Rattle.charges.specs.Charge.{mismatch}
-use Rattle.ints.proofs.Ints.{plain}
-use lib.ListN.{getD}
-use lib.IntN.{pos}
-use borrow.Author.Needs.{needs}
 use Rattle.charges.proofs.figures.mismatched.Statement.{statement}
 use Rattle.charges.proofs.figures.mismatched.Tie as tie
 

@@ -1,10 +1,10 @@
 -- `charges::figures::sized` meets its contract: one return for each case of the definition; a figure and a term are small.
-use Rattle.charges.proofs.Charges.{long-in, term-low, sized-short, sized-long}
-use Rattle.ints.proofs.Ints.{ints, plain, back}
-use denote.Ref.{now}
 use Prim.Native.Nat.{_-_}
 use native.Mathlib.Omega.{arith}
 use borrow.Author.Needs.{needs}
+use denote.Ref.{now}
+use Rattle.ints.proofs.Ints.{ints, plain, back}
+use Rattle.charges.proofs.Charges.{long-in, term-low, sized-short, sized-long}
 use Rattle.charges.proofs.figures.sized.Statement.{statement}
 use Rattle.charges.proofs.figures.sized.Tie as tie
 

@@ -1,12 +1,12 @@
 -- `charges::figures::slanted` meets its contract: the capped difference fits.
-use Rattle.charges.specs.Charge.{slant}
+use mathlib.Core.Path.{_∙_, ap}
+use Prim.Native.Nat.{_*_}
+use native.Mathlib.Omega.{arith}
+use lib.IntN.{pos}
 use mir.Facts.{toZ-pos}
 use mir.Syntax.{w32}
-use lib.IntN.{pos}
-use Prim.Native.Nat.{_*_}
-use mathlib.Core.Path.{_∙_, ap}
-use native.Mathlib.Omega.{arith}
 use borrow.Author.Needs.{needs}
+use Rattle.charges.specs.Charge.{slant}
 use Rattle.charges.proofs.figures.slanted.Statement.{statement}
 use Rattle.charges.proofs.figures.slanted.Tie as tie
 

@@ -1,11 +1,11 @@
 -- `charges::figures::stack` meets its contract: the table of the code is the list of figures.
+use Prim.Native.Nat.{_+_, _*_}
+use lib.IntN.{pos}
+use lib.ListN.{getD}
+use borrow.Author.Needs.{needs}
+use Rattle.ints.proofs.Ints.{plain}
 use Rattle.charges.specs.Figures as fig
 use Rattle.charges.specs.Charge.{stack, stackAt}
-use Rattle.ints.proofs.Ints.{plain}
-use Prim.Native.Nat.{_+_, _*_}
-use lib.ListN.{getD}
-use lib.IntN.{pos}
-use borrow.Author.Needs.{needs}
 use Rattle.charges.proofs.figures.stack.Statement.{statement}
 use Rattle.charges.proofs.figures.stack.Tie as tie
 

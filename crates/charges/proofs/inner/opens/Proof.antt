@@ -1,18 +1,14 @@
+-- `charges::inner::opens` meets its contract: each return is the case that the definition picks.
 use borrow.Author.Tests.{eq-eqb, ne-eqb, lt-ltb, le-ltb}
 use Rattle.charges.proofs.inner.opens.Statement.{statement}
 use Rattle.charges.proofs.inner.opens.Tie as tie
-use Rattle.charges.proofs.inner.opens.Reads as reads
-use Rattle.charges.proofs.inner.opens.Lts as lts
 
--- src/inner.rt:15:9
 returns : tie.Need-returns
 returns c = simp (eq-eqb _ _ (c .if1 .taken))
 
--- src/inner.rt:18:9
 returns-2 : tie.Need-returns-2
 returns-2 c = simp (ne-eqb _ _ (c .before .if1 .left), lt-ltb _ _ (c .if2 .taken))
 
--- src/inner.rt:11:1
 returns-3 : tie.Need-returns-3
 returns-3 c = simp (ne-eqb _ _ (c .before .if1 .left), le-ltb _ _ (c .if2 .left))
 
