@@ -18,11 +18,13 @@ pub data Line : Type 0 where
   figure : Loop → ℕ → ℕ → ℕ → ℤ → Line
   strand : List ℕ → List ℕ → List ℕ → ℤ → Line
 
+-- what a line says
 abbrev pub Says : Line → Type 0
 Says (loop b t l z) = _≡_ {A = Loop × ℤ} (kind (view b) (view t) 0, chargeAt (view b) (view t) 0) (l, z)
 Says (figure l o i p z) = chargeOf l o i p ≡ z
 Says (strand b t s z) = _≡_ {A = List ℕ × ℤ} (brackets t, energyOf b t) (s, z)
 
+-- every line of a table
 abbrev pub Every : List Line → Type 0
 Every [] = Unit {0}
 Every (line ∷ rest) = Says line × Every rest
@@ -37,6 +39,7 @@ sides a z l r =
     loop (a ∷ (replicate l 65 ++ (71 ∷ 65 ∷ 65 ∷ 65 ∷ 67 ∷ (replicate r 65 ++ (z ∷ [])))))
     ((l + r + 6) ∷ (replicate l unpaired ++ ((l + 5) ∷ unpaired ∷ unpaired ∷ unpaired ∷ suc l ∷ (replicate r unpaired ++ (0 ∷ [])))))
 
+-- the table
 abbrev pub table : List Line
 table =
     -- hairpins: the smallest has no mismatch; two, one and no purines; one longer than 30
@@ -78,6 +81,7 @@ table =
     (negsuc 3599)
     ∷ []
 
+-- each line computes
 pub kinds : Every table
 unfolding fig.hairpin fig.mismatch fig.bulge fig.internal fig.stack fig.long hairpin mismatch bulge internal stack long sized hairpinOf stackAt bulgeOf slant internalOf manyOf canPair pairIndex isPurine arms first between own single kindBy kind purines chargeBy chargeAt total glyphs brackets
 kinds = (refl, (refl, (refl, (refl, (refl, (refl, (refl, (refl, (refl, (refl, (refl, (refl, (refl, (refl, (refl, (refl, (refl, (refl, (refl, (refl, (refl, (refl, (refl, (refl, (refl, (refl, (refl, tt)))))))))))))))))))))))))))

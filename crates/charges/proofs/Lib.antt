@@ -1,6 +1,6 @@
--- The laws of charges and of loops, and a table of kinds.
+-- The laws of charges (Charges), of walks along a span (Walk), of a loop's charge (Charged) and of opening places (Openings), and a table of kinds (KindTable).
 pub mod Charges
-pub mod KindTable
 pub mod Walk
 pub mod Charged
 pub mod Openings
+pub mod KindTable
