@@ -4,6 +4,7 @@ mod figures;
 mod inner;
 mod tables;
 
+use crate::tables::SMALLEST_HAIRPIN;
 ghost use mathlib.Core.Path.{_≡_};
 ghost use mathlib.Core.Bool.{true, cond};
 ghost use Prim.Native.Nat.{suc, _+_, _-_, _<_, _≤_};
@@ -13,7 +14,7 @@ ghost use Rattle.bases.specs.Bases.{canPair};
 ghost use Rattle.structure.specs.Table.{view};
 ghost use Rattle.charges.specs.Figures.{smallestHairpin, longestSide, longest};
 ghost use Rattle.charges.specs.Charge.{chargeOf, Figured};
-ghost use Rattle.charges.specs.Loops.{opening, between, own, single, kind, purines, hairpinAt, chargeAt, energyOf, Chargeable};
+ghost use Rattle.charges.specs.Loops.{mayClose, opening, between, own, single, kind, purines, hairpinAt, chargeAt, energyOf, Chargeable};
 
 // What closing a many-armed loop costs, and each of its inner pairs.
 pub const CLOSING: usize = 3800;
@@ -57,6 +58,14 @@ fn purines(a: u8, b: u8) -> usize
     ensures { λ r. ⌜ r ≡ purines a b ⌝ }
 {
     counted(bases::is_purine(a)) + counted(bases::is_purine(b))
+}
+
+// Whether i and j may close a loop.
+pub fn may_close(bases: &[u8], i: usize, j: usize) -> bool
+    requires { ⌜ (i ≤ j) × (j < length (now bases)) ⌝ }
+    ensures { λ r. ⌜ r ≡ mayClose (view (now (bases .entry))) i j ⌝ }
+{
+    bases::can_pair(bases[i], bases[j]) && SMALLEST_HAIRPIN < j - i
 }
 
 // What the hairpin costs that i and j close.
