@@ -1,7 +1,7 @@
 -- What a structure costs, by its pair table and its bases alone: p is the entries of a sound table, b the letters of the bases. Assumes nothing: these are definitions.
 use mathlib.Core.Path.{_≡_}
 use mathlib.Core.Logic.{_≢_}
-use mathlib.Core.Bool.{Bool, true, cond, _&&_}
+use mathlib.Core.Bool.{Bool, true, not, cond, _&&_}
 use mathlib.Core.List.{List}
 use Prim.Native.Nat.{ℕ, zero, suc, _+_, _-_, _<_, _≤_}
 use lib.Dec.{ltb, leb, eqb}
@@ -29,6 +29,19 @@ pub record Candidate (b p : ℕ → ℕ) (lo hi : ℕ) : Type 0 where
 -- position k, whose entry is v, opens a pair
 abbrev pub opening : ℕ → ℕ → Bool
 opening k v = eqb (opens k v) 1
+
+-- position k opens a pair that may not close a loop
+unfoldable pub bars : (ℕ → ℕ) → (ℕ → ℕ) → ℕ → Bool
+bars b p k = opening k (p k) && not (mayClose b k (p k))
+
+-- the first of the n positions from k on that does, or the position after them
+unfoldable pub barred : (ℕ → ℕ) → (ℕ → ℕ) → ℕ → ℕ → ℕ
+barred b p zero k = k
+barred b p (suc n) k = cond (bars b p k) k (barred b p n (suc k))
+
+-- the first of a table
+abbrev pub firstBarred : List ℕ → List ℕ → ℕ
+firstBarred b t = barred (view b) (view t) (length t) 0
 
 -- how many pairs of the n positions from k on, the first s of them left out, lie in no other pair of these
 unfoldable pub arms : (ℕ → ℕ) → ℕ → ℕ → ℕ → ℕ

@@ -11,10 +11,10 @@ ghost use Prim.Native.Nat.{suc, _+_, _-_, _<_, _≤_};
 ghost use lib.IntN.{pos};
 ghost use lib.ListN.{length};
 ghost use Rattle.bases.specs.Bases.{canPair};
-ghost use Rattle.structure.specs.Table.{view};
+ghost use Rattle.structure.specs.Table.{view, Sound};
 ghost use Rattle.charges.specs.Figures.{smallestHairpin, longestSide, longest};
 ghost use Rattle.charges.specs.Charge.{chargeOf, Figured};
-ghost use Rattle.charges.specs.Loops.{mayClose, opening, between, own, single, kind, purines, hairpinAt, chargeAt, energyOf, Chargeable};
+ghost use Rattle.charges.specs.Loops.{mayClose, bars, firstBarred, opening, between, own, single, kind, purines, hairpinAt, chargeAt, energyOf, Chargeable};
 
 // What closing a many-armed loop costs, and each of its inner pairs.
 pub const CLOSING: usize = 3800;
@@ -66,6 +66,32 @@ pub fn may_close(bases: &[u8], i: usize, j: usize) -> bool
     ensures { λ r. ⌜ r ≡ mayClose (view (now (bases .entry))) i j ⌝ }
 {
     bases::can_pair(bases[i], bases[j]) && SMALLEST_HAIRPIN < j - i
+}
+
+// Whether position i opens a pair that may not close a loop.
+fn bars(bases: &[u8], pairs: &[u16], i: usize) -> bool
+    requires { ⌜ Sound (now pairs) × (length (now pairs) ≤ length (now bases)) × (i < length (now pairs)) ⌝ }
+    ensures { λ r. ⌜ r ≡ bars (view (now (bases .entry))) (view (now (pairs .entry))) i ⌝ }
+{
+    if inner::opens(i, pairs[i]) == 1 {
+        return !may_close(bases, i, pairs[i] as usize);
+    }
+    false
+}
+
+// The first position that opens a pair that may not close a loop; the length where none does, and the structure is a candidate.
+pub fn first_barred(bases: &[u8], pairs: &[u16]) -> usize
+    requires { ⌜ Sound (now pairs) × (length (now pairs) ≤ length (now bases)) ⌝ }
+    ensures { λ r. ⌜ r ≡ firstBarred (now (bases .entry)) (now (pairs .entry)) ⌝ }
+{
+    let mut i: usize = 0;
+    while i < pairs.len() {
+        if bars(bases, pairs, i) {
+            return i;
+        }
+        i += 1;
+    }
+    i
 }
 
 // What the hairpin costs that i and j close.
