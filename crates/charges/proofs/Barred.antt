@@ -27,10 +27,11 @@ module _ (b p : ℕ → ℕ) where
   barred-none zero k h = refl
   barred-none (suc n) k h = absurd (omega arith)
 
-  barred-le : (n k : ℕ) → k ≤ barred b p n k
+  -- it is in the table, or its end
+  pub barred-most : (n k : ℕ) → barred b p n k ≤ k + n
   unfolding barred
-  barred-le zero k = omega arith
-  barred-le (suc n) k = either (bars b p k) (λ e. rw e (omega arith)) (λ e. rw e (omega (arith, barred-le n (suc k))))
+  barred-most zero k = omega arith
+  barred-most (suc n) k = either (bars b p k) (λ e. rw e (omega arith)) (λ e. rw e (omega (arith, barred-most n (suc k))))
 
   -- none of the positions before the first does
   pub barred-before : (n k i : ℕ) → k ≤ i → i < barred b p n k → i < k + n → bars b p i ≡ false

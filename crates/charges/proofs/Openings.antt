@@ -249,7 +249,8 @@ module _ (b t : List ℕ) (r : Chargeable b t) (i : ℕ) (h : i < length t) (o :
       → Figured l o n q
   figured-at l x o n q el ex eo en eq = rw (el, eo, en, rw (add-one i) at ex, eq) figured
 
-  charge-near : In (negsuc 499999) (pos 500000) (chargeAt (view b) (view t) i)
+  -- its charge is within 500,000
+  pub charge-near : In (negsuc 499999) (pos 500000) (chargeAt (view b) (view t) i)
   unfolding chargeAt chargeBy chargeMost figureMost
   charge-near =
       let x = firstIn (view t) (suc i) (view t i) in

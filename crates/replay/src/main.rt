@@ -1,17 +1,16 @@
 // Replays the fixed list of the original's answers: each line's strand is folded, and what comes is compared with the line.
 // The list is data/answers.txt, which tests/oracle/make-answers makes.
 use counting::Counted;
-use lines::Reading;
+use fields::Reading;
 use refusals::FOLD_LIMIT;
 use report::Tally;
 use structure::Answer;
 
-mod lines;
 mod report;
 
 // Is the number of pairs the line's COUNT?
 fn count_agrees(count: usize, field: &[u8]) -> bool {
-    let due = lines::decimal(field);
+    let due = fields::decimal(field);
     let Reading::Number(n) = due else {
         return false;
     };
@@ -28,23 +27,23 @@ fn brackets_agree(table: &[u16], field: &[u8]) -> bool {
     if n != field.len() {
         return false;
     }
-    lines::starts_with(&text, field)
+    fields::starts_with(&text, field)
 }
 
 // Does the fold of a line's strand come to what the line says? ENERGY and its BRACKETS are read over.
 fn line_agrees(line: &[u8], bases: &mut [u8], cells: &mut [u16], pairs: &mut [u16]) -> bool {
-    if !lines::is_of_the_form(line) {
+    if !fields::has_fields(line, 6) {
         return false;
     }
-    let given = lines::decimal(lines::field(line, 0));
+    let given = fields::decimal(fields::field(line, 0));
     let Reading::Number(gap) = given else {
         return false;
     };
-    let answer = counting::nussinov(lines::field(line, 1), gap, bases, cells, pairs);
+    let answer = counting::nussinov(fields::field(line, 1), gap, bases, cells, pairs);
     let Counted::Folded(record, count) = answer else {
         return false;
     };
-    if !count_agrees(count, lines::field(line, 2)) {
+    if !count_agrees(count, fields::field(line, 2)) {
         return false;
     }
     let n = record.length;
@@ -52,7 +51,7 @@ fn line_agrees(line: &[u8], bases: &mut [u8], cells: &mut [u16], pairs: &mut [u1
     if pairs.len() < n {
         return false;
     }
-    brackets_agree(&pairs[0..n], lines::field(line, 3))
+    brackets_agree(&pairs[0..n], fields::field(line, 3))
 }
 
 // Every line of the list, folded in the same memory.
@@ -60,7 +59,7 @@ fn replay(list: &[u8], bases: &mut [u8], cells: &mut [u16], pairs: &mut [u16]) -
     let mut tally = Tally::new();
     let mut at = 0;
     while at < list.len() {
-        let end = lines::end_of_line(list, at);
+        let end = fields::end_of_line(list, at);
         let agrees = line_agrees(&list[at..end], bases, cells, pairs);
         tally = tally.with(agrees);
         at = end;

@@ -1,14 +1,14 @@
--- `lines::none_empty` is safe and ends. The loop's invariant: nothing; its measure, the fields not yet seen. Assumes nothing.
+-- `fields::none_empty` is safe and ends. The loop's invariant: nothing; its measure, the fields not yet seen. Assumes nothing.
 use Prim.Native.Nat.{_-_}
 use borrow.Author.Needs.{needs}
-use Rattle.replay.proofs.lines.none_empty.Statement.{statement}
-use Rattle.replay.proofs.lines.none_empty.Tie as tie
+use Rattle.fields.proofs.none_empty.Statement.{statement}
+use Rattle.fields.proofs.none_empty.Tie as tie
 
 abbrev Inv-loop : tie.InvT-loop
-Inv-loop line k₀ k = Unit {0}
+Inv-loop line count k₀ k = Unit {0}
 
 abbrev μ-loop : tie.MeasureT-loop
-μ-loop line k₀ k = 6 - k
+μ-loop line count k₀ k = count - k
 
 loop-holds : tie.Need-loop-holds Inv-loop μ-loop
 loop-holds c = search needs

@@ -1,9 +1,9 @@
--- `lines::decimal` is safe and ends. The loop's invariant: `i` is at most the length. Assumes nothing.
+-- `fields::decimal` is safe and ends. The loop's invariant: `i` is at most the length. Assumes nothing.
 use Prim.Native.Nat.{_-_, _≤_}
 use borrow.Author.Needs.{needs}
 use lib.ListN.{length}
-use Rattle.replay.proofs.lines.decimal.Statement.{statement}
-use Rattle.replay.proofs.lines.decimal.Tie as tie
+use Rattle.fields.proofs.decimal.Statement.{statement}
+use Rattle.fields.proofs.decimal.Tie as tie
 
 abbrev Inv-loop : tie.InvT-loop
 Inv-loop field value₀ i₀ value i = i ≤ length field

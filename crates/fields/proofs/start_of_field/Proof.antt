@@ -1,15 +1,15 @@
--- `lines::starts_with` is safe and ends. The loop's invariant: `i` is at most the field's length. Assumes nothing.
+-- `fields::start_of_field` meets its contract. The loop's invariant: `i` is at most the length. Assumes nothing.
 use Prim.Native.Nat.{_-_, _≤_}
 use borrow.Author.Needs.{needs}
 use lib.ListN.{length}
-use Rattle.replay.proofs.lines.starts_with.Statement.{statement}
-use Rattle.replay.proofs.lines.starts_with.Tie as tie
+use Rattle.fields.proofs.start_of_field.Statement.{statement}
+use Rattle.fields.proofs.start_of_field.Tie as tie
 
 abbrev Inv-loop : tie.InvT-loop
-Inv-loop text field i₀ i = i ≤ length field
+Inv-loop line k i₀ left₀ i left = i ≤ length line
 
 abbrev μ-loop : tie.MeasureT-loop
-μ-loop text field i₀ i = length field - i
+μ-loop line k i₀ left₀ i left = length line - i
 
 loop-holds : tie.Need-loop-holds Inv-loop μ-loop
 loop-holds c = search needs
@@ -20,11 +20,8 @@ returns c = search needs
 shared-slice-read-if2 : tie.Need-shared-slice-read-if2 Inv-loop μ-loop
 shared-slice-read-if2 c = search needs
 
-shared-slice-read-if2-2 : tie.Need-shared-slice-read-if2-2 Inv-loop μ-loop
-shared-slice-read-if2-2 c = search needs
-
-returns-2 : tie.Need-returns-2 Inv-loop μ-loop
-returns-2 c = search needs
+sub-left : tie.Need-sub-left Inv-loop μ-loop
+sub-left c = search needs
 
 add-i : tie.Need-add-i Inv-loop μ-loop
 add-i c = search needs
@@ -35,11 +32,11 @@ loop-less c = search needs
 loop-again : tie.Need-loop-again Inv-loop μ-loop
 loop-again c = search needs
 
-returns-3 : tie.Need-returns-3 Inv-loop μ-loop
-returns-3 c = search needs
+returns-2 : tie.Need-returns-2 Inv-loop μ-loop
+returns-2 c = search needs
 
-pub starts-with-spec : {M : Type 1} → statement M
-starts-with-spec =
+pub start-of-field-spec : {M : Type 1} → statement M
+start-of-field-spec =
     tie.close
     (tie.spec
     Inv-loop
@@ -47,9 +44,8 @@ starts-with-spec =
     loop-holds
     returns
     shared-slice-read-if2
-    shared-slice-read-if2-2
-    returns-2
+    sub-left
     add-i
     loop-less
     loop-again
-    returns-3)
+    returns-2)

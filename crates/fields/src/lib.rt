@@ -1,5 +1,4 @@
-// The lines of the list, each with the line feed that ends it, and their fields:
-// GAP SEQ COUNT BRACKETS ENERGY BRACKETS, with single spaces between.
+// Lists of lines, each with the line feed that ends it, whose fields have single spaces between.
 ghost use Prim.Native.Nat.{_≤_, _<_};
 ghost use lib.ListN.{length};
 
@@ -24,8 +23,8 @@ pub fn end_of_line(list: &[u8], from: usize) -> usize
     i
 }
 
-// Six fields, none of them empty, and a line feed.
-pub fn is_of_the_form(line: &[u8]) -> bool {
+// So many fields, none of them empty, and a line feed.
+pub fn has_fields(line: &[u8], count: usize) -> bool {
     let n = line.len();
     if n == 0 {
         return false;
@@ -33,10 +32,13 @@ pub fn is_of_the_form(line: &[u8]) -> bool {
     if line[n - 1] != b'\n' {
         return false;
     }
-    if spaces(line) != 5 {
+    if count == 0 {
         return false;
     }
-    none_empty(line)
+    if spaces(line) != count - 1 {
+        return false;
+    }
+    none_empty(line, count)
 }
 
 fn spaces(line: &[u8]) -> usize {
@@ -51,9 +53,9 @@ fn spaces(line: &[u8]) -> usize {
     n
 }
 
-fn none_empty(line: &[u8]) -> bool {
+fn none_empty(line: &[u8], count: usize) -> bool {
     let mut k = 0;
-    while k < 6 {
+    while k < count {
         let part = field(line, k);
         if part.len() == 0 {
             return false;

@@ -1,9 +1,9 @@
--- `lines::end_of_field` meets its contract. The loop's invariant: `i` lies from the start to the end of the line. Assumes nothing.
+-- `fields::end_of_field` meets its contract. The loop's invariant: `i` lies from the start to the end of the line. Assumes nothing.
 use Prim.Native.Nat.{_-_, _≤_}
 use borrow.Author.Needs.{needs}
 use lib.ListN.{length}
-use Rattle.replay.proofs.lines.end_of_field.Statement.{statement}
-use Rattle.replay.proofs.lines.end_of_field.Tie as tie
+use Rattle.fields.proofs.end_of_field.Statement.{statement}
+use Rattle.fields.proofs.end_of_field.Tie as tie
 
 abbrev Inv-loop : tie.InvT-loop
 Inv-loop line from i₀ i = (from ≤ i) × (i ≤ length line)

@@ -1,11 +1,11 @@
--- `lines::spaces` is safe and ends. The loop's invariant: no more spaces than bytes passed. Assumes nothing.
+-- `fields::spaces` is safe and ends. The loop's invariant: no more spaces than bytes passed. Assumes nothing.
 use Prim.Native.Nat.{_-_, _≤_}
 use mathlib.Core.Logic.{⊎-elim}
 use borrow.Author.Needs.{needs}
 use native.Mathlib.Omega.{arith}
 use lib.ListN.{length}
-use Rattle.replay.proofs.lines.spaces.Statement.{statement}
-use Rattle.replay.proofs.lines.spaces.Tie as tie
+use Rattle.fields.proofs.spaces.Statement.{statement}
+use Rattle.fields.proofs.spaces.Tie as tie
 
 abbrev Inv-loop : tie.InvT-loop
 Inv-loop line n₀ i₀ n i = (n ≤ i) × (i ≤ length line)
