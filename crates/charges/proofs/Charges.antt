@@ -37,6 +37,10 @@ pub term-low : termMost ≤ 10000
 unfolding termMost fig.long
 term-low = lit≤ tt
 
+pub figure-low : figureMost ≤ 16600
+unfolding figureMost
+figure-low = omega (arith, term-low)
+
 -- ---- a definition by its cases
 pub sized-short : (t : List ℤ) (f n : ℕ) → n ≤ tabled → sized t f n ≡ getD t (n - f) (pos 0)
 unfolding sized

@@ -91,8 +91,8 @@ sum (pos a) (negsuc b) = omega (arith, sub-law a (suc b))
 sum (negsuc a) (pos b) = omega (arith, sub-law b (suc a))
 sum (negsuc a) (negsuc b) = omega arith
 
--- and the difference
-neg : (b : ℤ) → (up (negℤ b) ≡ dn b) × (dn (negℤ b) ≡ up b)
+-- the opposite, and the difference
+pub neg : (b : ℤ) → (up (negℤ b) ≡ dn b) × (dn (negℤ b) ≡ up b)
 neg (pos zero) = (refl, refl)
 neg (pos (suc n)) = (refl, refl)
 neg (negsuc n) = (refl, refl)
