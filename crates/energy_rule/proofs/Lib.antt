@@ -1,3 +1,4 @@
 -- The laws of the energy cells: of the rule's parts on any table (Parts), of the rule among cell rules (Ruling).
 pub mod Parts
 pub mod Ruling
+pub mod Laws

@@ -26,14 +26,14 @@ pub energies-one : (b : Bases) (c : Cells Cell) (i : ℕ) → energies b c i i �
 unfolding energies
 energies-one b c i = rw (le-ltb i i (omega arith))
 
-module _ (b : Bases) (c : Cells Cell) (i j : ℕ) (h : i < j) where
-  -- the paired cell that the rule gives
-  abbrev closed : ℤ
-  closed = paired b (pairedOf c) (armsOf c) i j
+-- the paired cell that the rule gives
+abbrev pub closed : Bases → Cells Cell → ℕ → ℕ → ℤ
+closed b c i j = paired b (pairedOf c) (armsOf c) i j
 
-  pub energies-more : energies b c i j ≡ (closed, any closed (anyOf c) i j, armed closed (armsOf c) i j)
-  unfolding energies
-  energies-more = rw (lt-ltb i j h)
+pub energies-more : (b : Bases) (c : Cells Cell) (i j : ℕ) → i < j
+    → energies b c i j ≡ (closed b c i j, any (closed b c i j) (anyOf c) i j, armed (closed b c i j) (armsOf c) i j)
+unfolding energies
+energies-more b c i j h = rw (lt-ltb i j h)
 
 -- ---- it looks only inside its span
 module _ (b b′ : Bases) (i j : ℕ) (s : SameBases b b′ i j) where
@@ -107,7 +107,7 @@ energies-local b b′ c c′ i j h s e =
     let ev : SameInside (pairedOf c) (pairedOf c′) i j = λ x y p q u t. ap (λ (z : Cell). z .0) (e x y p q u t) in
     let ew : SameInside (anyOf c) (anyOf c′) i j = λ x y p q u t. ap (λ (z : Cell). z .1) (e x y p q u t) in
     let em : SameInside (armsOf c) (armsOf c′) i j = λ x y p q u t. ap (λ (z : Cell). z .2) (e x y p q u t) in
-    let z = closed b c i j l in
+    let z = closed b c i j in
     let k = paired-local b b′ i j s (pairedOf c) (pairedOf c′) ev l (armsOf c) (armsOf c′) em in
     energies-more b c i j l
     ∙ triple k (any-local (anyOf c) (anyOf c′) i j l ew z ∙ ap (λ x. any x (anyOf c′) i j) k) (armed-local (armsOf c) (armsOf c′) i j l em z ∙ ap (λ x. armed x (armsOf c′) i j) k)
@@ -217,7 +217,7 @@ energies-keeps b c i j h f =
     (record { none = λ _. refl; paired = omega (ints, floor-is j j); any = omega (ints, floor-is j j); arms = omega (ints, floor-is j j) })))
     (λ ne.
     let l : i < j = omega arith in
-    let z = closed b c i j l in
+    let z = closed b c i j in
     let fv : FineInside (λ x y z. floor x y ≤ℤ z) (pairedOf c) i j = λ x y p q u t. f x y p q u t .paired .low in
     let fm : FineInside (λ x y z. floor x y ≤ℤ z) (armsOf c) i j = λ x y p q u t. f x y p q u t .arms .low in
     let x : In (floor i j) mark z
