@@ -2,3 +2,5 @@
 pub mod Parts
 pub mod Ruling
 pub mod Laws
+pub mod Moved
+pub mod Optimal

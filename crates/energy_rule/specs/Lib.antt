@@ -3,3 +3,4 @@ pub mod Rule
 pub mod Bounds
 pub mod Memory
 pub mod Meaning
+pub mod Filled
