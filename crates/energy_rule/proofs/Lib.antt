@@ -4,3 +4,4 @@ pub mod Ruling
 pub mod Laws
 pub mod Moved
 pub mod Optimal
+pub mod Steps
