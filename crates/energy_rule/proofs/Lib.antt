@@ -5,3 +5,5 @@ pub mod Laws
 pub mod Moved
 pub mod Optimal
 pub mod Steps
+pub mod Built
+pub mod Meaning
