@@ -7,3 +7,4 @@ pub mod Optimal
 pub mod Steps
 pub mod Built
 pub mod Meaning
+pub mod Bounds
