@@ -1,5 +1,5 @@
 -- Laws of charges: each definition by its cases, the bounds of every table by one computed test, and from these the bounds of every charge.
-use mathlib.Core.Path.{_≡_}
+use mathlib.Core.Path.{_≡_, refl}
 use mathlib.Core.List.{List}
 use Prim.Native.Nat.{ℕ, suc, _+_, _-_, _*_, _<_, _≤_}
 use native.Mathlib.Omega.{arith}
@@ -65,6 +65,10 @@ bulge-one n o i h = simp (eq-eqb n 1 h)
 pub bulge-other : (n o i : ℕ) → (n ≡ 1 → ⊥) → bulgeOf n o i ≡ sized bulge 1 n
 unfolding bulgeOf
 bulge-other n o i h = simp (ne-eqb n 1 h)
+
+pub many-is : (m : ℕ) → manyOf m ≡ pos (100 * fig.closing + 100 * fig.arm * m)
+unfolding manyOf
+many-is m = refl
 
 -- ---- the bounds of each table
 pub hairpin-in : (k : ℕ) → In (pos 0) (pos 6600) (getD hairpin k (pos 0))

@@ -1,12 +1,12 @@
 -- Right cells are believable, and believable cells are in range: so no cell that is made from believable ones overflows.
 use mathlib.Core.Path.{_≡_, sym, ap, _∙_}
-use mathlib.Core.Logic.{_⊎_, inl, inr, ⊎-elim, by-cases}
+use mathlib.Core.Logic.{inl, inr, ⊎-elim, by-cases}
 use Prim.Native.Nat.{ℕ, zero, suc, _+_, _-_, _*_, _<_, _≤_}
 use native.Mathlib.Omega.{arith}
 use native.Mathlib.Decide.{ℕ-discrete}
-use lib.IntN.{ℤ, pos}
+use lib.IntN.{pos}
 use lib.Signed.{_≤ℤ_, _<ℤ_}
-use Rattle.ints.specs.Ints.{mark, In}
+use Rattle.ints.specs.Ints.{mark}
 use Rattle.ints.proofs.Ints.{ints, sum, either}
 use Rattle.ints.proofs.Minima.{less}
 use Rattle.cells.specs.Rule.{Bases, Cells, Right}
@@ -16,9 +16,9 @@ use Rattle.charges.specs.Charge.{figureMost}
 use Rattle.charges.specs.Loops.{mayClose}
 use Rattle.charges.proofs.Charges.{figure-low}
 use Rattle.energy_rule.specs.Rule.{Table, Cell, armCharge, energies, pairedOf, anyOf, armsOf}
-use Rattle.energy_rule.specs.Bounds.{floor, highest, Ranged, Believable}
+use Rattle.energy_rule.specs.Bounds.{Ranged, Believable}
 use Rattle.energy_rule.proofs.Ruling.{floor-is, energies-keeps}
-use Rattle.energy_rule.proofs.Laws.{Ruled, right-ruled, real-may, v-most, m-step, m-rights, Arms, helix, m-skip, m-last, m-split}
+use Rattle.energy_rule.proofs.Laws.{Ruled, right-ruled, real-may, v-most, m-step, m-rights, helix, m-skip, m-last, m-split}
 
 -- arms cost at most their first one alone, and that at most its hairpin and its charge
 pub m-most : (b : Bases) (n : ℕ) (v w m : Table) → Ruled b n v w m → (f i j : ℕ) → j < i + f → i ≤ j → j < n → m i j <ℤ mark

@@ -6,7 +6,7 @@ use mathlib.Core.List.{List}
 use Prim.Native.Nat.{ℕ, zero, suc, _+_, _-_, _*_, _<_, _≤_}
 use native.Mathlib.Omega.{arith}
 use native.Mathlib.Decide.{ℕ-discrete}
-use lib.IntN.{ℤ, pos}
+use lib.IntN.{pos}
 use lib.Signed.{_<ℤ_}
 use lib.ListN.{length, set, length-set}
 use Rattle.ints.specs.Ints.{mark}
@@ -19,7 +19,7 @@ use Rattle.energy_rule.specs.Rule.{Table}
 use Rattle.energy_rule.specs.Meaning.{energyIn, armedIn}
 use Rattle.energy_rule.specs.Filled.{Blank, joined, AnyFilled, ArmsFilled, PairFilled}
 use Rattle.energy_rule.proofs.Parts.{may-far}
-use Rattle.energy_rule.proofs.Laws.{Ruled, real-may, v-step, Closes, hairpins, inners, branches, m-step, Arms, helix, m-skip, m-last, m-split, w-step, Any, bare, pairs, w-skip, w-last, w-split}
+use Rattle.energy_rule.proofs.Laws.{Ruled, real-may, v-step, hairpins, inners, branches, m-step, helix, m-skip, m-last, m-split, w-step, bare, pairs, w-skip, w-last, w-split}
 use Rattle.energy_rule.proofs.Optimal.{any-least, arms-least, pair-least}
 use Rattle.energy_rule.proofs.Steps.{any-bare, any-skip, any-last, any-pair, any-split, arms-skip, arms-last, arms-helix, arms-split, blank-joined, pair-hairpin, pair-inner, pair-arms}
 
@@ -75,17 +75,18 @@ module _ (b : Bases) (n : ℕ) (v w m : Table) (r : Ruled b n v w m) where
           | m-last k ↦
               let g : suc (j - 1) ≡ j = omega arith in
               let x = arms-from f lo (j - 1) (omega arith) (omega arith) (omega arith) (λ a c u s d. p a c u s (omega arith)) (omega ints) t e
-                  (λ a u s. z a u (omega arith)) in
-              (x .0,
-               arms-last b (subst (λ (y : ℕ). ArmsFilled b t (x .0) lo y (m lo (j - 1))) g (x .1)) l (omega arith) (z j (omega arith) (omega arith)) k)
+              (λ a u s. z a u (omega arith)) in (
+                x .0,
+                arms-last b {t′ = x .0} (subst (λ (y : ℕ). ArmsFilled b t (x .0) lo y (m lo (j - 1))) g (x .1)) l (omega arith) (z j (omega arith) (omega arith)) k,
+              )
           | m-split k ↦
               let a = k .from in
               let c = k .to in
               let x = arms-from f lo (k .at) (omega arith) (omega arith) (omega arith) (λ y u s d g. p y u s d (omega arith)) (k .left) t e
-                  (λ y u s. z y u (omega arith)) in
+              (λ y u s. z y u (omega arith)) in
               let y = arms-from f (suc (k .at)) j (omega arith) (omega arith) h (λ y u s. p y u (omega arith)) (k .right) (x .0) (x .1 .placed .long ∙ e)
-                  (λ y u s. x .1 .placed .above y u ∙ z y (omega arith) s) in
-              (y .0, arms-split b (x .1) (y .1) (omega arith) (omega arith) (k .value))
+              (λ y u s. x .1 .placed .above y u ∙ z y (omega arith) s) in
+              (y .0, arms-split b {t₂ = y .0} (x .1) (y .1) (omega arith) (omega arith) (k .value))
         ])
 
     pair-from : (f i j : ℕ) → j < i + f → i < j → j < n → mayClose b i j ≡ true → (t : List ℕ) → length t ≡ n → Blank t i (suc j)
@@ -101,17 +102,19 @@ module _ (b : Bases) (n : ℕ) (v w m : Table) (r : Ruled b n v w m) where
               let c = q .far in
               let d = q .to in
               let x = pair-from f (q .x) (q .y) (omega arith) (omega arith) (omega arith) (q .may) (joined t i j) lj
-                  (blank-joined b t i j (q .x) (suc (q .y)) a d (λ k u s. z k (omega arith) (omega arith))) in
-              (x .0,
-               pair-inner b (x .1) a (omega arith) d (omega arith) (omega arith) y
-                   (λ k u s. z k (omega arith) (omega arith)) (λ k u s. z k (omega arith) (omega arith)) (q .left) (q .right) (q .value))
+              (blank-joined t i j (q .x) (suc (q .y)) a d (λ k u s. z k (omega arith) (omega arith))) in (
+                x .0,
+                pair-inner b (x .1) a (omega arith) d (omega arith) (omega arith) y
+                    (λ k u s. z k (omega arith) (omega arith)) (λ k u s. z k (omega arith) (omega arith)) (q .left) (q .right) (q .value),
+              )
           | branches p q ↦
               let g : suc (j - 1) ≡ j = omega arith in
               let x = arms-from n (suc i) (j - 1) (omega arith) (omega arith) (omega arith)
-                  (λ a c u s d k t₁ e₁ z₁. pair-from f a c (omega arith) s (omega arith) k t₁ e₁ z₁) p (joined t i j) lj
-                  (blank-joined b t i j (suc i) (suc (j - 1)) (omega arith) (omega arith) (λ k u s. z k (omega arith) (omega arith))) in
-              (x .0,
-               pair-arms b (subst (λ (u : ℕ). ArmsFilled b (joined t i j) (x .0) (suc i) u (m (suc i) (j - 1))) g (x .1)) l (omega arith) (omega arith) y q)
+              (λ a c u s d k t₁ e₁ z₁. pair-from f a c (omega arith) s (omega arith) k t₁ e₁ z₁) p (joined t i j) lj
+              (blank-joined t i j (suc i) (suc (j - 1)) (omega arith) (omega arith) (λ k u s. z k (omega arith) (omega arith))) in (
+                x .0,
+                pair-arms b {t′ = x .0} (subst (λ (u : ℕ). ArmsFilled b (joined t i j) (x .0) (suc i) u (m (suc i) (j - 1))) g (x .1)) l (omega arith) (omega arith) y q,
+              )
         ]
 
     any-from : (f lo j : ℕ) → j < lo + f → lo ≤ j → j < n → (t : List ℕ) → length t ≡ n → Blank t lo (suc j)
@@ -132,15 +135,16 @@ module _ (b : Bases) (n : ℕ) (v w m : Table) (r : Ruled b n v w m) where
               (x .0, any-skip b (x .1) (omega arith) (z lo (omega arith) (omega arith)) k)
           | w-last k ↦
               let g : suc (j - 1) ≡ j = omega arith in
-              let x = any-from f lo (j - 1) (omega arith) (omega arith) (omega arith) t e (λ a u s. z a u (omega arith)) in
-              (x .0,
-               any-last b (subst (λ (y : ℕ). AnyFilled b t (x .0) lo y (w lo (j - 1))) g (x .1)) l (omega arith) (z j (omega arith) (omega arith)) k)
+              let x = any-from f lo (j - 1) (omega arith) (omega arith) (omega arith) t e (λ a u s. z a u (omega arith)) in (
+                x .0,
+                any-last b {t′ = x .0} (subst (λ (y : ℕ). AnyFilled b t (x .0) lo y (w lo (j - 1))) g (x .1)) l (omega arith) (z j (omega arith) (omega arith)) k,
+              )
           | w-split k ↦
               let a = k .from in
               let c = k .to in
               let x = any-from f lo (k .at) (omega arith) (omega arith) (omega arith) t e (λ y u s. z y u (omega arith)) in
               let y = any-from f (suc (k .at)) j (omega arith) (omega arith) h (x .0) (x .1 .placed .long ∙ e)
-                  (λ y u s. x .1 .placed .above y u ∙ z y (omega arith) s) in
+              (λ y u s. x .1 .placed .above y u ∙ z y (omega arith) s) in
               (y .0, any-split b (x .1) (y .1) (omega arith) (omega arith) (k .value))
         ])
 

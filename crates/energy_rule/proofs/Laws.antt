@@ -18,7 +18,7 @@ use Rattle.charges.specs.Loops.{mayClose, own, hairpinAt}
 use Rattle.charges.proofs.Charges.{figure-low}
 use Rattle.charges.proofs.Charged.{hairpinAt-in}
 use Rattle.energy_rule.specs.Rule.{Table, Cell, closingCharge, armCharge, interior, paired, splits, any, armed, energies, pairedOf, anyOf, armsOf}
-use Rattle.energy_rule.proofs.Parts.{may-far, split-le, split-cap, Cut, split-real, interior-le, Inner, interior-real}
+use Rattle.energy_rule.proofs.Parts.{may-far, split-le, Cut, split-real, interior-le, Inner, interior-real}
 use Rattle.energy_rule.proofs.Ruling.{closed, energies-one, energies-more, paired-none}
 
 -- three tables that obey the rules on n bases
@@ -34,7 +34,7 @@ pub right-ruled : (b : Bases) (c : Cells Cell) (n : ℕ) → Right energies b c 
 right-ruled b c n r =
     let one : (i : ℕ) → i < n → c i i ≡ (mark, pos 0, mark) = λ i h. r i i (omega arith) h ∙ energies-one b c i in
     let is : (i j : ℕ) → i < j → j < n → c i j ≡ (closed b c i j, any (closed b c i j) (anyOf c) i j, armed (closed b c i j) (armsOf c) i j)
-        = λ i j l h. r i j (omega arith) h ∙ energies-more b c i j l in
+    = λ i j l h. r i j (omega arith) h ∙ energies-more b c i j l in
     let v : (i j : ℕ) → i < j → j < n → pairedOf c i j ≡ closed b c i j = λ i j l h. ap (λ (x : Cell). x .0) (is i j l h) in
     record {
       v-one = λ i h. ap (λ (x : Cell). x .0) (one i h);

@@ -1,10 +1,10 @@
 -- Every cell of a right table holds the least energy of its kind on its span, or the mark exactly where there is no structure of its kind.
-use mathlib.Core.Path.{_≡_, sym}
+use mathlib.Core.Path.{_≡_}
 use mathlib.Core.Logic.{_≢_, _⊎_, inl, inr, ⊎-elim}
 use mathlib.Core.List.{List}
 use Prim.Native.Nat.{ℕ, suc, _<_, _≤_}
 use native.Mathlib.Omega.{arith}
-use lib.IntN.{ℤ, pos}
+use lib.IntN.{ℤ}
 use lib.Signed.{_≤ℤ_, _<ℤ_}
 use lib.ListN.{replicate, length-replicate, getD-replicate}
 use Rattle.ints.specs.Ints.{mark}
@@ -38,10 +38,11 @@ module _ (b : Bases) (c : Cells Cell) (n : ℕ) (right : Right energies b c n) w
       let r = right-ruled b c n right in
       let v = pairedOf c in
       let w = anyOf c in
-      let m = armsOf c in
-      (λ e p a k. let x = pair-least b n v w m r p i j l h a k .0 in omega ints,
-       λ e. let x = w-most b n v w m r i j l h in omega ints,
-       λ e p a k. let x = arms-least b n v w m r p i j l h a k .0 in omega ints)
+      let m = armsOf c in (
+        λ e p a k. let x = pair-least b n v w m r p i j l h a k .0 in omega ints,
+        λ e. let x = w-most b n v w m r i j l h in omega ints,
+        λ e p a k. let x = arms-least b n v w m r p i j l h a k .0 in omega ints,
+      )
 
   -- ---- the least
   pub meant : n ≤ unpaired → (i j : ℕ) → i ≤ j → j < n → Meant b i j (c i j)

@@ -6,30 +6,24 @@ use mathlib.Core.Bool.{true}
 use Prim.Native.Nat.{ℕ, zero, suc, _+_, _-_, _*_, _<_, _≤_}
 use native.Mathlib.Omega.{arith}
 use native.Mathlib.Decide.{ℕ-discrete}
-use lib.IntN.{ℤ, pos, _+ℤ_, _-ℤ_}
+use lib.IntN.{pos, _+ℤ_}
 use lib.Signed.{_≤ℤ_, _<ℤ_}
 use Rattle.ints.specs.Ints.{mark}
 use Rattle.ints.proofs.Ints.{ints, sum, diff}
 use Rattle.structure.specs.Table.{unpaired}
 use Rattle.structure.proofs.Folds as folds
 use Rattle.cells.specs.Rule.{Bases}
-use Rattle.charges.specs.Figures.{arm, closing}
-use Rattle.charges.specs.Charge.{manyOf}
+use Rattle.charges.specs.Figures.{arm}
 use Rattle.charges.specs.Loops.{Candidate, mayClose, own, armsIn, firstIn, chargeAt, total}
-use Rattle.charges.proofs.Charges.{figure-low}
+use Rattle.charges.proofs.Charges.{many-is, figure-low}
 use Rattle.charges.proofs.Walk.{shut-none, arms-none, arms-free, arms-pair, total-free, total-open, armless, one-arm}
 use Rattle.charges.proofs.Walk as walk
-use Rattle.charges.proofs.Charged.{Charged, by-hairpin, by-inner, by-arms, charged}
+use Rattle.charges.proofs.Charged.{by-hairpin, by-inner, by-arms, charged}
 use Rattle.charges.proofs.Openings.{inside-folds}
 use Rattle.energy_rule.specs.Rule.{Table, closingCharge, armCharge}
 use Rattle.energy_rule.specs.Meaning.{energyIn, armedIn}
 use Rattle.energy_rule.proofs.Parts.{may-far}
 use Rattle.energy_rule.proofs.Laws.{Ruled, v-hairpin, v-most, v-real, v-inner, v-arms, m-left, m-helix, m-cut, m-rights, w-most, w-pair, w-left, w-cut}
-
--- a many-armed loop, as its cell's candidate has it
-pub many-is : (m : ℕ) → manyOf m ≡ pos (100 * closing + 100 * arm * m)
-unfolding manyOf
-many-is m = refl
 
 -- ---- candidates taken apart
 module _ (b : Bases) (p : ℕ → ℕ) {lo hi : ℕ} (a : Candidate b p lo hi) where
@@ -72,15 +66,16 @@ module _ (b : Bases) (n : ℕ) (v w m : Table) (r : Ruled b n v w m) (p : ℕ �
       let y = m-left b n v w m r lo (hi - 1) (omega arith) (omega arith) in
       let x0 = x .0 in
       let x1 = x .1 in
-      let g = total-free p b lo u in
-      (omega ints,
-       omega (
-         ints,
-         sum (total b p lo) (m lo (hi - 1)),
-         sum (total b p (suc lo)) (m (suc lo) (hi - 1)),
-         sum (total b p hi) (pos (100 * arm * armsIn p lo hi)),
-         sum (total b p hi) (pos (100 * arm * armsIn p (suc lo) hi)),
-       ))))
+      let g = total-free p b lo u in (
+        omega ints,
+        omega (
+          ints,
+          sum (total b p lo) (m lo (hi - 1)),
+          sum (total b p (suc lo)) (m (suc lo) (hi - 1)),
+          sum (total b p hi) (pos (100 * arm * armsIn p lo hi)),
+          sum (total b p hi) (pos (100 * arm * armsIn p (suc lo) hi)),
+        ),
+      )))
       (λ e.
       let s = folds.first p (a .fold) (omega arith) e in
       let k = p lo in
@@ -93,32 +88,34 @@ module _ (b : Bases) (n : ℕ) (v w m : Table) (r : Ruled b n v w m) (p : ℕ �
       let real = real-of lo k j (omega arith) c mr hx in
       by-cases (ℕ-discrete (armsIn p (suc k) hi) 0)
       (λ z.
-      let al = armless p b hi (suc k) hi (omega arith) (omega arith) (folds.outer p (a .fold) (s .0) (s .1)) z in
-      (real,
-       omega (
-         ints,
-         sum (v lo k) armCharge,
-         sum (total b p lo) (v lo k),
-         sum (total b p lo) (m lo j),
-         sum (total b p hi) (pos (100 * arm * armsIn p lo hi)),
-       )))
+      let al = armless p b hi (suc k) hi (omega arith) (omega arith) (folds.outer p (a .fold) (s .0) (s .1)) z in (
+        real,
+        omega (
+          ints,
+          sum (v lo k) armCharge,
+          sum (total b p lo) (v lo k),
+          sum (total b p lo) (m lo j),
+          sum (total b p hi) (pos (100 * arm * armsIn p lo hi)),
+        ),
+      ))
       (λ nz. by-cases (ℕ-discrete hi (suc k))
       (λ z. absurd (omega (arith, arms-none p (suc k) hi (omega arith))))
       (λ nk.
       let x = arms-bound f (suc k) hi (omega arith) (omega arith) h (candidate-outer b p a (s .0) (s .1)) (λ c d. q c (omega arith)) (omega arith) in
       let x1 = x .1 in
-      let y = m-cut b n v w m r lo j (omega arith) (omega arith) k (s .0) (omega arith) (real-of lo k k (omega arith) c (omega ints) hx) (x .0) in
-      (real,
-       omega (
-         ints,
-         sum (v lo k) armCharge,
-         sum (total b p lo) (v lo k),
-         sum (total b p lo) (m lo j),
-         sum (m lo k) (m (suc k) j),
-         sum (total b p (suc k)) (m (suc k) j),
-         sum (total b p hi) (pos (100 * arm * armsIn p (suc k) hi)),
-         sum (total b p hi) (pos (100 * arm * armsIn p lo hi)),
-       ))))))
+      let y = m-cut b n v w m r lo j (omega arith) (omega arith) k (s .0) (omega arith) (real-of lo k k (omega arith) c (omega ints) hx) (x .0) in (
+        real,
+        omega (
+          ints,
+          sum (v lo k) armCharge,
+          sum (total b p lo) (v lo k),
+          sum (total b p lo) (m lo j),
+          sum (m lo k) (m (suc k) j),
+          sum (total b p (suc k)) (m (suc k) j),
+          sum (total b p hi) (pos (100 * arm * armsIn p (suc k) hi)),
+          sum (total b p hi) (pos (100 * arm * armsIn p lo hi)),
+        ),
+      )))))
     where
       real-of : (lo k j : ℕ) → k < n → mayClose b lo k ≡ true → m lo j ≤ℤ m lo k → m lo k ≤ℤ (v lo k +ℤ armCharge) → m lo j <ℤ mark
       real-of lo k j h c x y = omega (ints, v-most b n v w m r lo k h c, figure-low, sum (v lo k) armCharge)
@@ -228,15 +225,16 @@ module _ (b : Bases) (n : ℕ) (v w m : Table) (r : Ruled b n v w m) (p : ℕ �
         let x = arms-bound (suc j) i (suc j) (omega arith) (omega arith) h c all-pairs s in
         let x′ = rw same-end at x in
         let y = x′ .1 in
-        let k = pos (100 * arm * armsIn p i (suc j)) in
-        (x′ .0,
-         omega (
-           ints,
-           sum (total b p i) (m i j),
-           sum (total b p (suc j)) k,
-           diff (total b p (suc j)) (total b p i),
-           sum (energyIn b p i (suc j)) k,
-         ))
+        let k = pos (100 * arm * armsIn p i (suc j)) in (
+          x′ .0,
+          omega (
+            ints,
+            sum (total b p i) (m i j),
+            sum (total b p (suc j)) k,
+            diff (total b p (suc j)) (total b p i),
+            sum (energyIn b p i (suc j)) k,
+          ),
+        )
 
     pub pair-least : p i ≡ j → (v i j <ℤ mark) × (v i j ≤ℤ energyIn b p i (suc j))
     pair-least e =
@@ -244,6 +242,7 @@ module _ (b : Bases) (n : ℕ) (v w m : Table) (r : Ruled b n v w m) (p : ℕ �
         let t = c .fold .mate i (omega arith) (omega arith) (omega arith) in
         let y = c .each i (omega arith) (omega arith) (omega arith) (omega arith) in
         let x = all-pairs i (omega arith) (omega arith) (omega arith) (omega arith) in
-        let x′ = rw e at x in
-        (v-real b n v w m r i j h (rw e at y),
-         omega (ints, sum (total b p i) (v i j), diff (total b p (suc j)) (total b p i)))
+        let x′ = rw e at x in (
+          v-real b n v w m r i j h (rw e at y),
+          omega (ints, sum (total b p i) (v i j), diff (total b p (suc j)) (total b p i)),
+        )

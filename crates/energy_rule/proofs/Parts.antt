@@ -4,7 +4,7 @@ use mathlib.Core.Bool.{true, false}
 use Prim.Native.Nat.{ℕ, suc, _+_, _-_, _<_, _≤_, min, max}
 use native.Mathlib.Omega.{arith}
 use native.Mathlib.Numerals.{add-one}
-use lib.IntN.{ℤ, pos, _+ℤ_}
+use lib.IntN.{ℤ, _+ℤ_}
 use lib.Signed.{_≤ℤ_, _<ℤ_}
 use Rattle.ints.specs.Ints.{mark, addE, minFrom}
 use Rattle.ints.proofs.Ints.{ints, either}
@@ -21,7 +21,7 @@ pub lowest-is : (j x : ℕ) → lowest j x ≡ max (x + suc smallestHairpin) (j 
 unfolding lowest
 lowest-is j x = refl
 
--- there is room for a hairpin
+-- a pair that may close a loop has room for a hairpin
 pub may-far : (b : Bases) (i j : ℕ) → mayClose b i j ≡ true → i + smallestHairpin < j
 may-far b i j e = omega (arith, close-far b i j e)
 

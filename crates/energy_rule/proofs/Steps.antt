@@ -16,12 +16,16 @@ use Rattle.structure.proofs.Folds as folds
 use Rattle.cells.specs.Rule.{Bases}
 use Rattle.charges.specs.Figures.{arm, longestSide}
 use Rattle.charges.specs.Loops.{Candidate, mayClose, own, hairpinAt, armsIn, firstIn, chargeAt, total}
+use Rattle.charges.proofs.Charges.{many-is}
 use Rattle.charges.proofs.Walk.{shut-none, shut-low, opens-up, arms-none, arms-free, arms-pair, arms-join, first-here, total-free, total-open, bare}
 use Rattle.charges.proofs.Charged.{none, inner-most, arms-most}
 use Rattle.energy_rule.specs.Rule.{closingCharge, armCharge}
 use Rattle.energy_rule.specs.Filled.{Blank, joined, Placed, AnyFilled, ArmsFilled, PairFilled}
 use Rattle.energy_rule.proofs.Moved.{armsIn-moved, total-moved, candidate-moved}
-use Rattle.energy_rule.proofs.Optimal.{many-is}
+
+-- what lies inside a pair is as blank as before it was joined
+pub blank-joined : (t : List ℕ) (i j lo hi : ℕ) → i < lo → hi ≤ j → Blank t lo hi → Blank (joined t i j) lo hi
+blank-joined t i j lo hi l h z k u c = getD-set-other (set t i j) j k i 0 (omega arith) ∙ getD-set-other t i k j 0 (omega arith) ∙ z k u c
 
 module _ (b : Bases) where
   -- ---- candidates put together
@@ -261,9 +265,6 @@ module _ (b : Bases) where
         );
       }
 
-  pub blank-joined : (t : List ℕ) (i j lo hi : ℕ) → i < lo → hi ≤ j → Blank t lo hi → Blank (joined t i j) lo hi
-  blank-joined t i j lo hi l h z k u c = getD-set-other (set t i j) j k i 0 (omega arith) ∙ getD-set-other t i k j 0 (omega arith) ∙ z k u c
-
   pub pair-hairpin : (t : List ℕ) (i j : ℕ) (z : ℤ) → i < j → j < length t → j < unpaired → mayClose b i j ≡ true → Blank t (suc i) j
       → z ≡ hairpinAt b i j → PairFilled b t (joined t i j) i j z
   pair-hairpin t i j z h n s y e q =
@@ -305,9 +306,9 @@ module _ (b : Bases) where
       let d = f .placed in
       let fp = f .pair in
       let el : (k : ℕ) → suc i ≤ k → k < x → view t′ k ≡ unpaired
-          = λ k u v. d .below k v ∙ blank-joined t i j (suc i) x (omega arith) (omega arith) bl k u v in
+      = λ k u v. d .below k v ∙ blank-joined t i j (suc i) x (omega arith) (omega arith) bl k u v in
       let er : (k : ℕ) → suc y ≤ k → k < j → view t′ k ≡ unpaired
-          = λ k u v. d .above k u ∙ blank-joined t i j (suc y) j (omega arith) (omega arith) br k u v in
+      = λ k u v. d .above k u ∙ blank-joined t i j (suc y) j (omega arith) (omega arith) br k u v in
       let xl = bare (view t′) b x (suc i) x j (omega arith) h (omega arith) el in
       let xr = bare (view t′) b j (suc y) j j (omega arith) yj (omega arith) er in
       let lc = xl .count in
@@ -319,7 +320,7 @@ module _ (b : Bases) where
       let z0 = arms-none (view t′) j j (omega arith) in
       let one : armsIn (view t′) (suc i) j ≡ 1 = omega arith in
       let hd : firstIn (view t′) (suc i) j ≡ x
-          = xl .head ∙ first-here (view t′) x j (omega arith) (opens-up x (view t′ x) (omega arith) (omega arith)) in
+      = xl .head ∙ first-here (view t′) x j (omega arith) (opens-up x (view t′ x) (omega arith) (omega arith)) in
       let en = f .energy in
       pair-around (record {
         long = d .long;
