@@ -9,11 +9,12 @@ use native.Mathlib.Decide.{ℕ-discrete}
 use native.Mathlib.Omega.{arith}
 use borrow.Author.Tests.{ltb-true, ltb-false}
 use lib.Dec.{ltb}
-use lib.ListN.{length, set, length-set}
-use lib.Seq.{getD-set-same, getD-set-other}
+use lib.ListN.{length}
 use Rattle.cells.specs.Rule.{Bases, Cells, Right}
 use Rattle.cells.specs.Fill.{at}
 use Rattle.structure.specs.Table.{unpaired, view, opened}
+use Rattle.tables.specs.Writing.{cleared, joined}
+use Rattle.tables.proofs.Written.{cleared-long, cleared-below, cleared-above, joined-long, joined-other, joined-first, joined-last}
 use Rattle.count_rule.specs.Rule.{mayPair, nussinov}
 use Rattle.count_rule.specs.Allowed.{Allowed, May}
 use Rattle.count_rule.specs.Counts.{Step, Ruled, Blank, Filled}
@@ -21,11 +22,10 @@ use Rattle.cells.proofs.Spans.{span-some}
 use Rattle.count_rule.proofs.Ruling.{right-ruled}
 use Rattle.count_rule.proofs.Filling.{filled-none, filled-one, filled-first, filled-both, filled-split, filled-moved}
 use Rattle.count_trace.specs.Choosing.{choice}
-use Rattle.count_trace.specs.Trace.{step, traceOf, cleared, tracedOf}
+use Rattle.count_trace.specs.Trace.{step, traceOf, tracedOf}
 use Rattle.count_trace.specs.declared.choice.Choice.{Choice}
 use Rattle.count_trace.specs.declared.choice.Choice.the-variants.{FirstUnpaired, Paired, Split, LastUnpaired}
 use Rattle.count_trace.proofs.Choosing.{Why, why}
-use Rattle.count_trace.proofs.Tracing.{cleared-long, cleared-blank, cleared-above}
 
 -- ---- on any table
 
@@ -34,23 +34,6 @@ record Kept (o o′ : List ℕ) (lo hi : ℕ) : Type 0 where
   pub long : length o′ ≡ length o
   pub below : (k : ℕ) → k < lo → view o′ k ≡ view o k
   pub above : (k : ℕ) → hi ≤ k → view o′ k ≡ view o k
-
--- o with lo and hi joined
-module _ (o : List ℕ) (lo hi : ℕ) where
-  abbrev joined : List ℕ
-  joined = set (set o lo hi) hi lo
-
-  joined-long : length joined ≡ length o
-  joined-long = simp length-set
-
-  joined-other : (k : ℕ) → k ≢ lo → k ≢ hi → view joined k ≡ view o k
-  joined-other k n m = getD-set-other (set o lo hi) hi k lo 0 m ∙ getD-set-other o lo k hi 0 n
-
-  joined-first : lo < hi → hi < length o → view joined lo ≡ hi
-  joined-first h l = getD-set-other (set o lo hi) hi lo lo 0 (omega arith) ∙ getD-set-same o lo hi 0 (omega arith)
-
-  joined-last : hi < length o → view joined hi ≡ lo
-  joined-last l = getD-set-same (set o lo hi) hi lo 0 (rw length-set l)
 
 module _ (c : Cells ℕ) (p : ℕ → ℕ → Bool) where
   -- a step keeps what its calls keep
@@ -191,7 +174,7 @@ module _ (b t : List ℕ) (gap n : ℕ) (o : List ℕ) (h : 0 < n) (l : n < 6553
   traced-filled =
       let e = cleared-long n o room in
       fills (mayPair (view b) gap) n (at (view t)) (right-ruled gap n (view b) (at (view t)) r) l n 0 n (cleared n o) (omega arith) (omega arith)
-      (omega arith) (omega arith) (cleared-blank n o)
+      (omega arith) (omega arith) (λ k h. cleared-below n o k)
 
   -- the structure is allowed
   pub traced-allowed : Allowed (May (view b) gap) (view (tracedOf b t gap n o)) 0 n

@@ -15,15 +15,16 @@ use Rattle.cells.specs.Rule.{Cells, span}
 use Rattle.cells.specs.Fill.{at}
 use Rattle.cells.proofs.Places.{three}
 use Rattle.structure.specs.Table.{view}
+use Rattle.tables.specs.Writing.{cleared}
+use Rattle.tables.proofs.Written.{cleared-long, cleared-below}
 use Rattle.count_rule.specs.Rule.{mayPair}
 use Rattle.cells.proofs.Spans.{span-some, span-none}
 use Rattle.count_trace.specs.Choosing.{firstOf, closesOf, splitAt, splitOf, orLast, choice}
-use Rattle.count_trace.specs.Trace.{step, traceOf, cleared, tracedOf}
+use Rattle.count_trace.specs.Trace.{step, traceOf, tracedOf}
 use Rattle.count_trace.specs.declared.choice.Choice.{Choice}
 use Rattle.count_trace.specs.declared.choice.Choice.the-variants.{FirstUnpaired, Paired, Split, LastUnpaired}
 use Rattle.count_trace.specs.declared.choice.Found.the-variants.{After}
 use Rattle.count_trace.proofs.Choosing.{split-inside}
-use Rattle.count_trace.proofs.Tracing.{cleared-long, cleared-blank}
 
 -- two pair tables agree on the first n positions
 record Agree (n : ℕ) (o o′ : List ℕ) : Type 0 where
@@ -54,7 +55,7 @@ agree-cleared n o o′ h h′ =
     record {
       room = omega (arith, cleared-long n o h);
       room′ = omega (arith, cleared-long n o′ h′);
-      same = λ k l. cleared-blank n o k (omega arith) l ∙ sym (cleared-blank n o′ k (omega arith) l);
+      same = λ k l. cleared-below n o k l ∙ sym (cleared-below n o′ k l);
     }
 
 first-same : (test test′ : ℕ → Bool) (m k : ℕ) → ((x : ℕ) → k ≤ x → x < k + m → test x ≡ test′ x) → firstOf test k m ≡ firstOf test′ k m

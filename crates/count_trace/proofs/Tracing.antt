@@ -1,20 +1,18 @@
--- The traceback's steps as its calls make them, the room that they need, and the cleared table that they start from.
+-- The traceback's steps as its calls make them, and the room that they need.
 -- Assumes nothing.
-use mathlib.Core.Path.{_≡_, refl, ap, _∙_}
+use mathlib.Core.Path.{_≡_, refl, _∙_}
 use mathlib.Core.Bool.{Bool}
 use mathlib.Core.List.{List}
 use Prim.Native.Nat.{ℕ, zero, suc, _+_, _-_, _≤_, _<_}
 use native.Mathlib.Nat.{le-trans}
 use native.Mathlib.Omega.{arith}
 use borrow.Author.Tests.{lt-ltb, le-ltb}
-use lib.ListN.{length, drop, set, replicate, length-append, length-drop, length-replicate, getD-replicate, List·getD-append}
-use lib.Seq.{getD-append-add, getD-drop}
+use lib.ListN.{length}
 use Rattle.cells.specs.Rule.{Cells}
 use Rattle.cells.proofs.Places.{tri-mono}
-use Rattle.structure.specs.Table.{unpaired, view}
-use Rattle.count_rule.specs.Counts.{Blank}
+use Rattle.tables.specs.Writing.{joined}
 use Rattle.count_trace.specs.Choosing.{choice}
-use Rattle.count_trace.specs.Trace.{traceOf, Traced, Room, cleared}
+use Rattle.count_trace.specs.Trace.{traceOf, Traced, Room}
 use Rattle.count_trace.specs.declared.choice.Choice.{Choice}
 use Rattle.count_trace.specs.declared.choice.Choice.the-variants.{FirstUnpaired, Paired, Split, LastUnpaired}
 use Rattle.count_trace.proofs.Choosing.{split-inside}
@@ -32,7 +30,7 @@ module _ (c : Cells ℕ) (p : ℕ → ℕ → Bool) (lo hi : ℕ) (o : List ℕ)
     traced-first o′ q r (suc f) l = r f (omega arith) ∙ simp (le-ltb _ _ h, ← e, q)
 
     pub traced-both :
-        (o₁ o′ : List ℕ) → ch ≡ Paired → o₁ ≡ set (set o lo (hi - 1)) (hi - 1) lo →
+        (o₁ o′ : List ℕ) → ch ≡ Paired → o₁ ≡ joined o lo (hi - 1) →
         Traced c p (lo + 1) (hi - 1) o₁ o′ → Traced c p lo hi o o′
     unfolding traceOf
     traced-both o₁ o′ q w r zero l = absurd (omega arith)
@@ -62,20 +60,3 @@ room-in b t o o′ lo hi lo′ hi′ r e h l = record {
   cells = le-trans (tri-mono hi′ hi l) (r .cells);
   out = omega arith;
 }
-
--- the cleared table: as long, unpaired below n, and as it was from n on
-module _ (n : ℕ) (o : List ℕ) where
-  pub cleared-long : n ≤ length o → length (cleared n o) ≡ length o
-  cleared-long h = simp (length-append, length-replicate, length-drop) (omega arith)
-
-  pub cleared-blank : Blank (cleared n o) 0 n
-  cleared-blank k h l = List·getD-append (replicate n unpaired) (drop n o) 0 k (rw length-replicate l) ∙ getD-replicate n k unpaired 0 l
-
-  pub cleared-above : (k : ℕ) → n ≤ k → view (cleared n o) k ≡ view o k
-  cleared-above k h =
-      let e : k ≡ n + (k - n) = omega arith in
-      let long : k ≡ length (replicate n unpaired) + (k - n) = rw length-replicate e in
-      ap (view (cleared n o)) long
-      ∙ getD-append-add (replicate n unpaired) (drop n o) (k - n) 0
-      ∙ getD-drop n o (k - n) 0
-      ∙ rw (← e)

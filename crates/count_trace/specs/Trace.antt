@@ -2,14 +2,15 @@
 -- Assumes nothing: these are definitions.
 use mathlib.Core.Path.{_≡_}
 use mathlib.Core.Bool.{Bool, true, false}
-use mathlib.Core.List.{List, _++_}
+use mathlib.Core.List.{List}
 use Prim.Native.Nat.{ℕ, zero, suc, _+_, _-_, _≤_, _<_}
 use lib.Dec.{ltb}
-use lib.ListN.{length, set, drop, replicate}
+use lib.ListN.{length}
 use Rattle.cells.specs.Tri.{tri}
 use Rattle.cells.specs.Rule.{Cells}
 use Rattle.cells.specs.Fill.{at}
 use Rattle.structure.specs.Table.{unpaired, view}
+use Rattle.tables.specs.Writing.{cleared, joined}
 use Rattle.count_rule.specs.Rule.{mayPair}
 use Rattle.count_trace.specs.Choosing.{choice}
 use Rattle.count_trace.specs.declared.choice.Choice.{Choice}
@@ -19,7 +20,7 @@ use Rattle.count_trace.specs.declared.choice.Choice.the-variants.{FirstU
 abbrev pub step : (ℕ → ℕ → List ℕ → List ℕ) → Bool → Choice → ℕ → ℕ → List ℕ → List ℕ
 step go true ch lo hi o = o
 step go false FirstUnpaired lo hi o = go (lo + 1) hi o
-step go false Paired lo hi o = go (lo + 1) (hi - 1) (set (set o lo (hi - 1)) (hi - 1) lo)
+step go false Paired lo hi o = go (lo + 1) (hi - 1) (joined o lo (hi - 1))
 step go false (Split k) lo hi o = go (k + 1) hi (go lo (k + 1) o)
 step go false LastUnpaired lo hi o = go lo (hi - 1) o
 
@@ -39,10 +40,6 @@ pub record Room (b t o : List ℕ) (lo hi : ℕ) : Type 0 where
   pub bases : hi ≤ length b
   pub cells : tri hi ≤ length t
   pub out : hi ≤ length o
-
--- o with its first n positions unpaired
-abbrev pub cleared : ℕ → List ℕ → List ℕ
-cleared n o = replicate n unpaired ++ drop n o
 
 -- what the traceback of n bases makes of o
 unfoldable pub tracedOf : List ℕ → List ℕ → ℕ → ℕ → List ℕ → List ℕ

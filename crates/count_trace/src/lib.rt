@@ -1,11 +1,9 @@
 // The traceback of pair counting: the structure that a table of counts leads to, be the table right or wrong.
 ghost use mathlib.Core.Path.{_≡_};
-ghost use Prim.Native.Nat.{_≤_, _<_};
-ghost use lib.ListN.{length, set};
 ghost use Rattle.cells.specs.Fill.{at};
 ghost use Rattle.structure.specs.Table.{view};
 ghost use Rattle.count_rule.specs.Rule.{mayPair};
-ghost use Rattle.count_trace.specs.Trace.{Room, Traced, cleared, tracedOf};
+ghost use Rattle.count_trace.specs.Trace.{Room, Traced, tracedOf};
 use crate::choice::Choice;
 use crate::choice::choose;
 
@@ -16,7 +14,7 @@ pub fn traceback(bases: &[u8], cells: &[u16], gap: usize, n: usize, pairs: &mut 
     requires { ⌜ Room (now bases) (now cells) (now pairs) 0 n ⌝ }
     ensures { λ _. ⌜ now (pairs .exit) ≡ tracedOf (now (bases .entry)) (now (cells .entry)) gap n (now (pairs .entry)) ⌝ }
 {
-    clear(pairs, n);
+    tables::clear(pairs, n);
     trace(bases, cells, gap, 0, n, pairs);
 }
 
@@ -32,7 +30,7 @@ fn trace(bases: &[u8], cells: &[u16], gap: usize, lo: usize, hi: usize, pairs: &
     match choose(bases, cells, gap, lo, last) {
         Choice::FirstUnpaired => trace(bases, cells, gap, lo + 1, hi, pairs),
         Choice::Paired => {
-            join(pairs, lo, last);
+            tables::join(pairs, lo, last);
             trace(bases, cells, gap, lo + 1, last, pairs);
         }
         Choice::Split(k) => {
@@ -40,26 +38,5 @@ fn trace(bases: &[u8], cells: &[u16], gap: usize, lo: usize, hi: usize, pairs: &
             trace(bases, cells, gap, k + 1, hi, pairs);
         }
         Choice::LastUnpaired => trace(bases, cells, gap, lo, last, pairs),
-    }
-}
-
-// Writes that i and j pair.
-fn join(pairs: &mut [u16], i: usize, j: usize)
-    requires { ⌜ (i < j) × (j < 65535) × (j < length (now pairs)) ⌝ }
-    ensures { λ _. ⌜ now (pairs .exit) ≡ set (set (now (pairs .entry)) i j) j i ⌝ }
-{
-    pairs[i] = j as u16;
-    pairs[j] = i as u16;
-}
-
-// Makes the first n positions unpaired.
-fn clear(pairs: &mut [u16], n: usize)
-    requires { ⌜ n ≤ length (now pairs) ⌝ }
-    ensures { λ _. ⌜ now (pairs .exit) ≡ cleared n (now (pairs .entry)) ⌝ }
-{
-    let mut k = 0;
-    while k < n {
-        pairs[k] = 65535;
-        k += 1;
     }
 }

@@ -12,7 +12,7 @@ use Rattle.count_trace.proofs.trace.Reads as trace
 use Rattle.count_trace.proofs.trace.Kinds as trace-kinds
 use Rattle.count_trace.proofs.+trace.Lts-trace as trace-lts
 use Rattle.count_trace.proofs.choice.choose.Reads as choose-reads
-use Rattle.count_trace.proofs.join.Reads as join-reads
+use Rattle.tables.proofs.join.Reads as join-reads
 use Rattle.count_trace.proofs.+trace.{statement}
 use Rattle.count_trace.proofs.+trace.Tie.{close}
 

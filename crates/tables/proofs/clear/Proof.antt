@@ -1,4 +1,4 @@
--- `count_trace::clear` meets its contract. The loop's invariant: the first k entries are cleared, and nothing else. Assumes nothing.
+-- `tables::clear` meets its contract. The loop's invariant: the first k entries are cleared, and nothing else. Assumes nothing.
 use mathlib.Core.List.{List}
 use mathlib.Core.Path.{_≡_, refl, ap, _∙_}
 use Prim.Native.Nat.{ℕ, _-_, _≤_}
@@ -7,9 +7,9 @@ use borrow.Author.Fill.{fill-more}
 use borrow.Author.Needs.{needs}
 use lib.ListN.{length, set, length-set}
 use Rattle.structure.specs.Table.{unpaired}
-use Rattle.count_trace.specs.Trace.{cleared}
-use Rattle.count_trace.proofs.clear.Statement.{statement}
-use Rattle.count_trace.proofs.clear.Tie as tie
+use Rattle.tables.specs.Writing.{cleared}
+use Rattle.tables.proofs.clear.Statement.{statement}
+use Rattle.tables.proofs.clear.Tie as tie
 
 abbrev Inv-loop : tie.InvT-loop
 Inv-loop pairs₀ n k₀ pairs k = (k ≤ n) × (length pairs ≡ length pairs₀) × (pairs ≡ cleared k pairs₀)

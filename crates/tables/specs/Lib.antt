@@ -1,0 +1,2 @@
+-- What the contracts of every traceback cite.
+pub mod Writing

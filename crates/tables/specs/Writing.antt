@@ -1,0 +1,13 @@
+-- What is written into a pair table o. Assumes nothing: these are definitions.
+use mathlib.Core.List.{List, _++_}
+use Prim.Native.Nat.{ℕ}
+use lib.ListN.{set, drop, replicate}
+use Rattle.structure.specs.Table.{unpaired}
+
+-- o with its first n positions unpaired
+abbrev pub cleared : ℕ → List ℕ → List ℕ
+cleared n o = replicate n unpaired ++ drop n o
+
+-- o with i and j paired
+abbrev pub joined : List ℕ → ℕ → ℕ → List ℕ
+joined o i j = set (set o i j) j i
