@@ -1,0 +1,3 @@
+-- What the contracts of the tracebacks cite.
+pub mod Choosing
+pub mod Trace

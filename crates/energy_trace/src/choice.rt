@@ -1,0 +1,28 @@
+// What a traceback takes at a span: the first, in the original's order, of what reaches the cell's value.
+
+// What a traceback is of: any structure of a span, arms of a span, or the inside of a pair.
+pub enum Job {
+    Any,
+    Arms,
+    Closed,
+}
+
+// What it does next: nothing, one shorter span, a pair and its inside, or two shorter spans that meet.
+pub enum Move {
+    Stop,
+    Go(Job, usize, usize),
+    Close(usize, usize),
+    Twice(Job, usize, usize, usize),
+}
+
+// What a search along places finds.
+pub enum Found {
+    At(usize),
+    Nothing,
+}
+
+// What the search for an inner pair finds.
+pub enum Within {
+    Pair(usize, usize),
+    Nowhere,
+}
