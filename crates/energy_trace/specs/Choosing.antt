@@ -10,10 +10,10 @@ use Rattle.cells.specs.Rule.{Bases}
 use Rattle.charges.specs.Figures.{longestSide}
 use Rattle.charges.specs.Loops.{mayClose, hairpinAt}
 use Rattle.energy_rule.specs.Rule.{Table, closingCharge, armCharge, innerAt, lowest}
-use Rattle.energy_trace.specs.declared.choice.Found.{Found}
-use Rattle.energy_trace.specs.declared.choice.Found.the-variants.{At, Nothing}
-use Rattle.energy_trace.specs.declared.choice.Within.{Within}
-use Rattle.energy_trace.specs.declared.choice.Within.the-variants.{Pair, Nowhere}
+use Rattle.energy_trace.specs.declared.search.Found.{Found}
+use Rattle.energy_trace.specs.declared.search.Found.the-variants.{At, Nothing}
+use Rattle.energy_trace.specs.declared.search.Within.{Within}
+use Rattle.energy_trace.specs.declared.search.Within.the-variants.{Pair, Nowhere}
 use Rattle.energy_trace.specs.declared.choice.Job.{Job}
 use Rattle.energy_trace.specs.declared.choice.Job.the-variants.{Any, Arms, Closed}
 use Rattle.energy_trace.specs.declared.choice.Move.{Move}
@@ -59,33 +59,35 @@ innerRow b v i j x = firstOf (reaches b v i j x) (lowest j x) (j - lowest j x)
 unfoldable pub inside : Bases → Table → ℕ → ℕ → Within
 inside b v i j = firstRow (innerRow b v i j) (i + 1) (min (suc longestSide) (j - (i + 1)))
 
--- ---- any structure of a span
+-- ---- a span, of any structure or of arms
 -- its two parts; where there is no split, no choice is left
 abbrev pub orSplit : Job → ℕ → ℕ → Found → Move
 orSplit job lo hi (At k) = Twice job lo (k + 1) hi
 orSplit job lo hi Nothing = Stop
 
--- no structure; the first with the last; the first unpaired; the last unpaired; the smallest split
+-- the first unpaired; the last unpaired; the smallest split
+unfoldable pub shorter : Job → Table → ℕ → ℕ → Move
+shorter job c lo hi =
+    cond (same (c (lo + 1) (hi - 1)) (c lo (hi - 1))) (Go job (lo + 1) hi)
+    (cond (same (c lo (hi - 1 - 1)) (c lo (hi - 1))) (Go job lo (hi - 1))
+    (orSplit job lo hi (splitting c lo (hi - 1))))
+
+-- any structure: none; the first with the last; then as above
 unfoldable pub anyMove : Table → Table → ℕ → ℕ → Move
 anyMove v w lo hi =
     cond (ltb (lo + 1) hi)
     (cond (same (w lo (hi - 1)) (pos 0)) Stop
     (cond (same (v lo (hi - 1)) (w lo (hi - 1))) (Close lo (hi - 1))
-    (cond (same (w (lo + 1) (hi - 1)) (w lo (hi - 1))) (Go Any (lo + 1) hi)
-    (cond (same (w lo (hi - 1 - 1)) (w lo (hi - 1))) (Go Any lo (hi - 1))
-    (orSplit Any lo hi (splitting w lo (hi - 1)))))))
+    (shorter Any w lo hi)))
     Stop
 
--- ---- arms of a span
--- none; the first with the last as one arm; the first unpaired; the last unpaired; the smallest split
+-- arms: none where the cell holds the mark; the first with the last as one arm; then as above
 unfoldable pub armsMove : Table → Table → ℕ → ℕ → Move
 armsMove v m lo hi =
     cond (ltb (lo + 1) hi)
     (cond (ltZ (m lo (hi - 1)) mark)
     (cond (same (addE (v lo (hi - 1)) armCharge) (m lo (hi - 1))) (Close lo (hi - 1))
-    (cond (same (m (lo + 1) (hi - 1)) (m lo (hi - 1))) (Go Arms (lo + 1) hi)
-    (cond (same (m lo (hi - 1 - 1)) (m lo (hi - 1))) (Go Arms lo (hi - 1))
-    (orSplit Arms lo hi (splitting m lo (hi - 1))))))
+    (shorter Arms m lo hi))
     Stop)
     Stop
 

@@ -14,15 +14,3 @@ pub enum Move {
     Close(usize, usize),
     Twice(Job, usize, usize, usize),
 }
-
-// What a search along places finds.
-pub enum Found {
-    At(usize),
-    Nothing,
-}
-
-// What the search for an inner pair finds.
-pub enum Within {
-    Pair(usize, usize),
-    Nowhere,
-}
