@@ -5,9 +5,9 @@ use crate::histories::{self, made};
 use crate::slow::{self, refusal, Edit, Held};
 use crate::{same, Found};
 use strands::{strand, Random, Temper};
-use yukemasop::Editor;
 use yukemasop::folds::{self, Record};
 use yukemasop::tables::UNPAIRED;
+use yukemasop::Editor;
 use yukemasop::Refusal;
 
 /// Bytes that are bases, and yet are never kept so.

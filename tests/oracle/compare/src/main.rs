@@ -5,9 +5,11 @@
 //! `compare soak SEED EDITS`, which `tests/soak` runs, has histories of edits alone.
 
 mod bases;
+mod charges;
 mod counting;
 mod edits;
 mod histories;
+mod loops;
 mod slow;
 mod structures;
 
@@ -62,11 +64,12 @@ fn main() -> ExitCode {
         return ExitCode::from(u8::from(!tell(soak(&mut random, size))));
     }
     println!("seed {seed}, size {size}");
-    let parts: [fn(&mut Random, usize) -> Found; 4] = [
+    let parts: [fn(&mut Random, usize) -> Found; 5] = [
         |_, _| bases::compare(),
         structures::compare,
         counting::compare,
         edits::compare,
+        loops::compare,
     ];
     let passed = parts.iter().all(|part| tell(part(&mut random, size)));
     ExitCode::from(u8::from(!passed))
