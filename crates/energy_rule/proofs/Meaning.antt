@@ -1,6 +1,6 @@
 -- Every cell of a right table holds the least energy of its kind on its span, or the mark exactly where there is no structure of its kind.
 use mathlib.Core.Path.{_≡_}
-use mathlib.Core.Logic.{_≢_, _⊎_, inl, inr, ⊎-elim}
+use mathlib.Core.Logic.{_⊎_, inl, inr, ⊎-elim}
 use mathlib.Core.List.{List}
 use Prim.Native.Nat.{ℕ, suc, _<_, _≤_}
 use native.Mathlib.Omega.{arith}
@@ -13,13 +13,12 @@ use Rattle.ints.proofs.Minima.{less}
 use Rattle.structure.specs.Table.{unpaired, view}
 use Rattle.cells.specs.Rule.{Bases, Cells, Right}
 use Rattle.cells.proofs.Fills.{right-fine}
-use Rattle.charges.specs.Loops.{Candidate, armsIn}
 use Rattle.energy_rule.specs.Rule.{Cell, energies, pairedOf, anyOf, armsOf}
 use Rattle.energy_rule.specs.Bounds.{Ranged}
 use Rattle.energy_rule.specs.Filled.{Blank}
 use Rattle.energy_rule.specs.Meaning.{Meant}
 use Rattle.energy_rule.proofs.Ruling.{energies-keeps}
-use Rattle.energy_rule.proofs.Laws.{right-ruled, w-most}
+use Rattle.energy_rule.proofs.Laws.{right-ruled}
 use Rattle.energy_rule.proofs.Optimal.{any-least, arms-least, pair-least}
 use Rattle.energy_rule.proofs.Built.{any-exact, arms-exact, pair-exact, pair-built, any-built, arms-built}
 
@@ -28,23 +27,6 @@ marked : (z : ℤ) → z ≤ℤ mark → (z ≡ mark) ⊎ (z <ℤ mark)
 marked z h = ⊎-elim (λ p. inr p) (λ p. inl (omega ints)) (less z mark)
 
 module _ (b : Bases) (c : Cells Cell) (n : ℕ) (right : Right energies b c n) where
-  -- ---- the mark
-  -- no structure of a marked cell's kind exists; a cell of any structure is never marked
-  pub mark-none : (i j : ℕ) → i ≤ j → j < n
-      → (c i j .0 ≡ mark → (p : ℕ → ℕ) → Candidate b p i (suc j) → p i ≡ j → ⊥)
-      × (c i j .1 ≢ mark)
-      × (c i j .2 ≡ mark → (p : ℕ → ℕ) → Candidate b p i (suc j) → 1 ≤ armsIn p i (suc j) → ⊥)
-  mark-none i j l h =
-      let r = right-ruled b c n right in
-      let v = pairedOf c in
-      let w = anyOf c in
-      let m = armsOf c in (
-        λ e p a k. let x = pair-least b n v w m r p i j l h a k .0 in omega ints,
-        λ e. let x = w-most b n v w m r i j l h in omega ints,
-        λ e p a k. let x = arms-least b n v w m r p i j l h a k .0 in omega ints,
-      )
-
-  -- ---- the least
   pub meant : n ≤ unpaired → (i j : ℕ) → i ≤ j → j < n → Meant b i j (c i j)
   meant short i j l h =
       let r = right-ruled b c n right in
@@ -58,7 +40,7 @@ module _ (b : Bases) (c : Cells Cell) (n : ℕ) (right : Right energies b c n) w
       record {
         paired = record {
           least = λ p a k. pair-least b n v w m r p i j l h a k .1;
-          reached = ⊎-elim (λ q. inl q)
+          reached = ⊎-elim (λ q. inl (q, λ p a k. let u = pair-least b n v w m r p i j l h a k .0 in omega ints))
               (λ q.
               let x = pair-built b n v w m r short i j h t e z l q in
               inr (view (x .0), x .1 .placed .fits, x .1 .pair, pair-exact b n v w m r t (x .0) i j l h (x .1)))
@@ -72,7 +54,7 @@ module _ (b : Bases) (c : Cells Cell) (n : ℕ) (right : Right energies b c n) w
         };
         arms = record {
           least = λ p a k. arms-least b n v w m r p i j l h a k .1;
-          reached = ⊎-elim (λ q. inl q)
+          reached = ⊎-elim (λ q. inl (q, λ p a k. let u = arms-least b n v w m r p i j l h a k .0 in omega ints))
               (λ q.
               let x = arms-built b n v w m r short i j h t e z l q in
               inr (view (x .0), x .1 .placed .fits, x .1 .some, arms-exact b n v w m r t (x .0) i j l h (x .1)))

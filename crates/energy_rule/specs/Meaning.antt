@@ -18,10 +18,10 @@ energyIn b p lo hi = total b p hi -ℤ total b p lo
 abbrev pub armedIn : Bases → (ℕ → ℕ) → ℕ → ℕ → ℤ
 armedIn b p lo hi = energyIn b p lo hi +ℤ pos (100 * arm * armsIn p lo hi)
 
--- z is the least cost of the candidates of a kind, or the mark where there is none
+-- z is the least cost of the candidates of a kind, or the mark exactly where there is none
 pub record Least (b : Bases) (lo hi : ℕ) (Kind : (ℕ → ℕ) → Type 0) (cost : (ℕ → ℕ) → ℤ) (z : ℤ) : Type 0 where
   pub least : (p : ℕ → ℕ) → Candidate b p lo hi → Kind p → z ≤ℤ cost p
-  pub reached : (z ≡ mark) ⊎ ((p : ℕ → ℕ) × Candidate b p lo hi × Kind p × (cost p ≡ z))
+  pub reached : ((z ≡ mark) × ((p : ℕ → ℕ) → Candidate b p lo hi → Kind p → ⊥)) ⊎ ((p : ℕ → ℕ) × Candidate b p lo hi × Kind p × (cost p ≡ z))
 
 -- a cell holds the least energy with i and j paired, of any structure, and as one or more arms
 pub record Meant (b : Bases) (i j : ℕ) (c : Cell) : Type 0 where

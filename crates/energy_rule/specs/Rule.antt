@@ -1,6 +1,6 @@
 -- The cell rules of the least-energy fold, in thousandths. A cell is a triple: the least with i and j paired, the least of any structure on the
 -- span, the least of the span as one or more arms. Assumes nothing: these are definitions.
-use mathlib.Core.Bool.{Bool, cond}
+use mathlib.Core.Bool.{cond}
 use Prim.Native.Nat.{ℕ, suc, _+_, _-_, _*_, min, max}
 use lib.Dec.{ltb}
 use lib.IntN.{ℤ, pos}
