@@ -71,11 +71,11 @@ module _ (c : Table) (i j : ℕ) where
 
 -- ---- loops with one inner pair
 module _ (b : Bases) (v : Table) (i j : ℕ) where
-  inner-none : (x y : ℕ) → mayClose b x y ≡ false → innerAt b v i j x y ≡ mark
+  pub inner-none : (x y : ℕ) → mayClose b x y ≡ false → innerAt b v i j x y ≡ mark
   unfolding innerAt
   inner-none x y e = rw e
 
-  inner-some : (x y : ℕ) → mayClose b x y ≡ true → innerAt b v i j x y ≡ addE (v x y) (own b i j x y)
+  pub inner-some : (x y : ℕ) → mayClose b x y ≡ true → innerAt b v i j x y ≡ addE (v x y) (own b i j x y)
   unfolding innerAt
   inner-some x y e = rw e
 
