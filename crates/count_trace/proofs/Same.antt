@@ -8,15 +8,13 @@ use native.Mathlib.Decide.{decLt}
 use native.Mathlib.Omega.{arith}
 use borrow.Author.Tests.{lt-ltb}
 use lib.Dec.{eqb, ltb}
-use lib.ListN.{length, set, length-set}
-use lib.Seq.{getD-set-same, getD-set-other}
+use lib.ListN.{length}
 use Rattle.bases.specs.Bases.{canPair}
 use Rattle.cells.specs.Rule.{Cells, span}
 use Rattle.cells.specs.Fill.{at}
-use Rattle.cells.proofs.Places.{three}
 use Rattle.structure.specs.Table.{view}
 use Rattle.tables.specs.Writing.{cleared}
-use Rattle.tables.proofs.Written.{cleared-long, cleared-below}
+use Rattle.tables.proofs.Agreeing.{Agree, agree-joined, agree-cleared}
 use Rattle.count_rule.specs.Rule.{mayPair}
 use Rattle.cells.proofs.Spans.{span-some, span-none}
 use Rattle.count_trace.specs.Choosing.{firstOf, closesOf, splitAt, splitOf, orLast, choice}
@@ -25,38 +23,6 @@ use Rattle.count_trace.specs.declared.choice.Choice.{Choice}
 use Rattle.count_trace.specs.declared.choice.Choice.the-variants.{FirstUnpaired, Paired, Split, LastUnpaired}
 use Rattle.count_trace.specs.declared.choice.Found.the-variants.{After}
 use Rattle.count_trace.proofs.Choosing.{split-inside}
-
--- two pair tables agree on the first n positions
-record Agree (n : ℕ) (o o′ : List ℕ) : Type 0 where
-  pub room : n ≤ length o
-  pub room′ : n ≤ length o′
-  pub same : (k : ℕ) → k < n → view o k ≡ view o′ k
-
-agree-set : (n : ℕ) (o o′ : List ℕ) (i v : ℕ) → Agree n o o′ → Agree n (set o i v) (set o′ i v)
-agree-set n o o′ i v a =
-    let h = a .room in
-    let h′ = a .room′ in
-    record {
-      room = simp length-set h;
-      room′ = simp length-set h′;
-      same = λ k l.
-          three k i (λ q. other k l (λ z. omega arith))
-          (λ q.
-          subst (λ (x : ℕ). view (set o x v) k ≡ view (set o′ x v) k) q
-          (getD-set-same o k v 0 (omega arith) ∙ sym (getD-set-same o′ k v 0 (omega arith))))
-          (λ q. other k l (λ z. omega arith));
-    }
-  where
-    other : (k : ℕ) → k < n → (k ≡ i → ⊥) → view (set o i v) k ≡ view (set o′ i v) k
-    other k l ne = getD-set-other o i k v 0 ne ∙ a .same k l ∙ sym (getD-set-other o′ i k v 0 ne)
-
-agree-cleared : (n : ℕ) (o o′ : List ℕ) → n ≤ length o → n ≤ length o′ → Agree n (cleared n o) (cleared n o′)
-agree-cleared n o o′ h h′ =
-    record {
-      room = omega (arith, cleared-long n o h);
-      room′ = omega (arith, cleared-long n o′ h′);
-      same = λ k l. cleared-below n o k l ∙ sym (cleared-below n o′ k l);
-    }
 
 first-same : (test test′ : ℕ → Bool) (m k : ℕ) → ((x : ℕ) → k ≤ x → x < k + m → test x ≡ test′ x) → firstOf test k m ≡ firstOf test′ k m
 unfolding firstOf
@@ -73,7 +39,7 @@ step-same :
 step-same n go go′ ih true ch lo hi o o′ h s a = a
 step-same n go go′ ih false FirstUnpaired lo hi o o′ h s a = ih (lo + 1) hi o o′ h a
 step-same n go go′ ih false Paired lo hi o o′ h s a =
-    ih (lo + 1) (hi - 1) _ _ (omega arith) (agree-set n _ _ (hi - 1) lo (agree-set n o o′ lo (hi - 1) a))
+    ih (lo + 1) (hi - 1) _ _ (omega arith) (agree-joined n o o′ lo (hi - 1) a)
 step-same n go go′ ih false (Split k) lo hi o o′ h s a = ih (k + 1) hi _ _ h (ih lo (k + 1) o o′ (s k refl) a)
 step-same n go go′ ih false LastUnpaired lo hi o o′ h s a = ih lo (hi - 1) o o′ (omega arith) a
 
