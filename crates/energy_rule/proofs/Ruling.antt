@@ -37,15 +37,15 @@ energies-more b c i j h = rw (lt-ltb i j h)
 
 -- ---- it looks only inside its span
 module _ (b b′ : Bases) (i j : ℕ) (s : SameBases b b′ i j) where
-  may-local : (x y : ℕ) → i ≤ x → x ≤ j → i ≤ y → y ≤ j → mayClose b x y ≡ mayClose b′ x y
+  pub may-local : (x y : ℕ) → i ≤ x → x ≤ j → i ≤ y → y ≤ j → mayClose b x y ≡ mayClose b′ x y
   unfolding mayClose
   may-local x y p q u t = rw (s x p q, s y u t)
 
-  own-local : (x y : ℕ) → i ≤ j → i ≤ x → x ≤ j → i ≤ y → y ≤ j → own b i j x y ≡ own b′ i j x y
+  pub own-local : (x y : ℕ) → i ≤ j → i ≤ x → x ≤ j → i ≤ y → y ≤ j → own b i j x y ≡ own b′ i j x y
   unfolding own
   own-local x y h p q u t = rw (s i (omega arith) h, s j h (omega arith), s x p q, s y u t)
 
-  hairpin-local : i < j → hairpinAt b i j ≡ hairpinAt b′ i j
+  pub hairpin-local : i < j → hairpinAt b i j ≡ hairpinAt b′ i j
   unfolding hairpinAt
   hairpin-local h = rw (s (i + 1) (omega arith) (omega arith), s (j - 1) (omega arith) (omega arith))
 

@@ -1,3 +1,4 @@
 -- Laws that belong to no one function.
 pub mod Searching
 pub mod Reached
+pub mod Landing
