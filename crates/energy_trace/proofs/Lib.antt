@@ -2,3 +2,4 @@
 pub mod Searching
 pub mod Reached
 pub mod Landing
+pub mod Same
