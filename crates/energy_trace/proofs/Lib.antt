@@ -3,3 +3,4 @@ pub mod Searching
 pub mod Reached
 pub mod Landing
 pub mod Same
+pub mod Whole
