@@ -4,3 +4,4 @@ pub mod Reached
 pub mod Landing
 pub mod Same
 pub mod Whole
+pub mod Certified

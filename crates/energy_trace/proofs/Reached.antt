@@ -45,7 +45,7 @@ use Rattle.energy_trace.specs.declared.choice.Move.the-variants.{Stop, G
 use Rattle.energy_trace.proofs.Searching.{Sought, hit, miss, sought, Scanned, hits, misses, scanned}
 
 -- ---- tests
-same-yes : (a b : ℤ) → same a b ≡ true → a ≡ b
+pub same-yes : (a b : ℤ) → same a b ≡ true → a ≡ b
 unfolding same
 same-yes a b e = either (leZ a b)
     (λ p. either (leZ b a) (λ q. let s = le-yes a b p in let t = le-yes b a q in omega ints) (λ q. absurd (false≢true (rw (p, q) at e))))
