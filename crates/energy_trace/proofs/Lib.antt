@@ -5,3 +5,4 @@ pub mod Landing
 pub mod Same
 pub mod Whole
 pub mod Certified
+pub mod Vectors
