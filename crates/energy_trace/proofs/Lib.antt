@@ -6,3 +6,4 @@ pub mod Same
 pub mod Whole
 pub mod Certified
 pub mod Vectors
+pub mod Readiness

@@ -1,4 +1,20 @@
-// Searches for the first candidate that reaches the cell (i, j).
+// Searches for the first candidate that reaches the value of the cell (i, j).
+use crate::reach;
+use charges::LONGEST_SIDE;
+ghost use mathlib.Core.Path.{_≡_};
+ghost use mathlib.Core.Bool.{true};
+ghost use Prim.Native.Nat.{suc, _+_, _-_, _≤_, _<_, min};
+ghost use lib.ListN.{length};
+ghost use Rattle.structure.specs.Table.{view};
+ghost use Rattle.charges.specs.Figures.{longest, longestSide};
+ghost use Rattle.charges.specs.Loops.{mayClose};
+ghost use Rattle.energy_rule.specs.Rule.{lowest};
+ghost use Rattle.energy_rule.specs.Memory.{table};
+ghost use Rattle.energy_trace.specs.Choosing.{splitting, innerRow, inside};
+ghost use Rattle.energy_trace.specs.Trace.{Ready};
+
+// How far apart the places of an inner pair are at least: a hairpin has room between them.
+const NEAREST: usize = 4;
 
 // What a search along places finds.
 pub enum Found {
@@ -10,4 +26,70 @@ pub enum Found {
 pub enum Within {
     Pair(usize, usize),
     Nowhere,
+}
+
+// The smallest split.
+pub fn splitting(cells: &[i32], i: usize, j: usize) -> Found
+    requires { ⌜ (i < j) × Ready (now cells) j ⌝ }
+    ensures { λ r. ⌜ r ≡ splitting (table (now (cells .entry))) i j ⌝ }
+{
+    let mut k = i + 1;
+    while k < j {
+        if reach::split(cells, i, j, k) {
+            return Found::At(k);
+        }
+        k += 1;
+    }
+    Found::Nothing
+}
+
+// The inner pair with the first opening place, and of these with the first closing place.
+pub fn inside(bases: &[u8], paired: &[i32], i: usize, j: usize) -> Within
+    requires { ⌜ (i < j) × (j < length (now bases)) × (mayClose (view (now bases)) i j ≡ true) × Ready (now paired) j ⌝ }
+    ensures { λ r. ⌜ r ≡ inside (view (now (bases .entry))) (table (now (paired .entry))) i j ⌝ }
+{
+    let end = i + 1 + smaller(LONGEST_SIDE + 1, j - (i + 1));
+    let mut x = i + 1;
+    while x < end {
+        if let Found::At(y) = inner_row(bases, paired, i, j, x) {
+            return Within::Pair(x, y);
+        }
+        x += 1;
+    }
+    Within::Nowhere
+}
+
+// The first closing place of an inner pair that opens at x.
+fn inner_row(bases: &[u8], paired: &[i32], i: usize, j: usize, x: usize) -> Found
+    requires { ⌜ (i < x) × (x ≤ j) × (j < length (now bases)) × (x - suc i ≤ longestSide) ⌝ }
+    requires { ⌜ (mayClose (view (now bases)) i j ≡ true) × Ready (now paired) j ⌝ }
+    ensures { λ r. ⌜ r ≡ innerRow (view (now (bases .entry))) (table (now (paired .entry))) i j x ⌝ }
+{
+    let mut y = lowest(j, x);
+    while y < j {
+        if reach::inner(bases, paired, i, j, x, y) {
+            return Found::At(y);
+        }
+        y += 1;
+    }
+    Found::Nothing
+}
+
+// The first place where an inner pair that opens at x may close.
+fn lowest(j: usize, x: usize) -> usize
+    requires { ⌜ (x ≤ j) × (j < longest + 2) ⌝ }
+    ensures { λ r. ⌜ r ≡ lowest j x ⌝ }
+{
+    let near = x + NEAREST;
+    if j <= near + LONGEST_SIDE {
+        near
+    } else {
+        j - (LONGEST_SIDE + 1)
+    }
+}
+
+fn smaller(a: usize, b: usize) -> usize
+    ensures { λ r. ⌜ r ≡ min a b ⌝ }
+{
+    if a < b { a } else { b }
 }
