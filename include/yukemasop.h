@@ -153,6 +153,35 @@ ykm_counted ykm_nussinov(const uint8_t *seq, size_t seq_length, size_t gap,
                          uint16_t *pairs, size_t pairs_length);
 
 /*
+ * The least energy in thousandths of kcal/mol, or the refusal. energy is 0 in a refusal.
+ */
+typedef struct {
+    uint32_t number;
+    size_t place;
+    int32_t energy;
+} ykm_least;
+
+/*
+ * The least energy that any structure of the sequence has by the loop rules of docs/RULES.md, and the
+ * structure that has it, the ties decided as docs/RULES.md says. It is never above 0.
+ * Of n bases it writes the kept letters to the first n bytes of bases, the structure to the first n
+ * entries of pairs, and to the first n(n+1)/2 cells of the three tables the least energy of every span:
+ * paired: with its two ends paired; any: of any structure; arms: as one or more arms of a many-armed
+ * loop at 400 each. A cell with no such structure holds YKM_NO_STRUCTURE. What the buffers hold before
+ * plays no part.
+ * Refusals: 3; 1 if the sequence is empty; 2 at the first byte that is no base; 4 if bases or pairs is
+ * shorter than n, or one of the tables than n(n+1)/2.
+ *
+ *     ykm_zuker_mfe("gggaaaaccc", 10, bases, 10, paired, 55, any, 55, arms, 55, pairs, 10)
+ *                                           writes GGGAAAACCC to bases and (((....))) as a table to pairs;
+ *                                           energy == -1800
+ */
+#define YKM_NO_STRUCTURE 1000000000
+ykm_least ykm_zuker_mfe(const uint8_t *seq, size_t seq_length, uint8_t *bases, size_t bases_length,
+                        int32_t *paired, size_t paired_length, int32_t *any, size_t any_length,
+                        int32_t *arms, size_t arms_length, uint16_t *pairs, size_t pairs_length);
+
+/*
  * Edits. They are lent what a fold or the edit before it left: the record, the kept letters in the first
  * n bytes of bases and the first n(n+1)/2 cells, n being the record's length. An edit brings these to
  * what a fold of the edited sequence writes, keeps the gap, and answers with the new record and count.

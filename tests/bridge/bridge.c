@@ -228,6 +228,22 @@ int main(void) {
             back(pairs);
             break;
         }
+        case 17: {
+            buffer seq = lend(0, 1), bases = lend(1, 1);
+            buffer paired = lend(2, 4), any = lend(3, 4), arms = lend(4, 4), pairs = lend(5, 2);
+            ykm_least least = ykm_zuker_mfe(seq.at, seq.count, bases.at, bases.count, paired.at, paired.count,
+                                            any.at, any.count, arms.at, arms.count, pairs.at, pairs.count);
+            say(least.number);
+            say(least.place);
+            say((uint64_t)(int64_t)least.energy);
+            left(seq);
+            back(bases);
+            back(paired);
+            back(any);
+            back(arms);
+            back(pairs);
+            break;
+        }
         default: _exit(4);
     }
 }

@@ -3,7 +3,7 @@
 //! The archive is for x86-64. On another host the program runs it under an emulator, so that
 //! everything above this module is tried there too.
 
-use crate::ffi::{Answer, Base, Counted, Record};
+use crate::ffi::{Answer, Base, Counted, Least, Record};
 use std::io::{BufReader, Read, Write};
 use std::process::{Child, ChildStdin, ChildStdout, Command, Stdio};
 use std::sync::{Mutex, MutexGuard, PoisonError};
@@ -69,6 +69,16 @@ impl Element for u16 {
     }
     fn get(bytes: &[u8]) -> u16 {
         u16::from_le_bytes([bytes[0], bytes[1]])
+    }
+}
+
+impl Element for i32 {
+    const WIDTH: usize = 4;
+    fn put(self, bytes: &mut Vec<u8>) {
+        bytes.extend(self.to_le_bytes());
+    }
+    fn get(bytes: &[u8]) -> i32 {
+        i32::from_le_bytes([bytes[0], bytes[1], bytes[2], bytes[3]])
     }
 }
 
@@ -262,6 +272,43 @@ pub unsafe fn ykm_nussinov(
     reply.back(cells, cells_room);
     reply.back(pairs, pairs_room);
     counted
+}
+
+// The C call has so many.
+#[allow(clippy::too_many_arguments)]
+pub unsafe fn ykm_zuker_mfe(
+    seq: *const u8,
+    n: usize,
+    bases: *mut u8,
+    bases_room: usize,
+    paired: *mut i32,
+    paired_room: usize,
+    any: *mut i32,
+    any_room: usize,
+    arms: *mut i32,
+    arms_room: usize,
+    pairs: *mut u16,
+    pairs_room: usize,
+) -> Least {
+    let mut reply = Call::new(17)
+        .lent(seq, n)
+        .lent(bases, bases_room)
+        .lent(paired, paired_room)
+        .lent(any, any_room)
+        .lent(arms, arms_room)
+        .lent(pairs, pairs_room)
+        .make();
+    let least = Least {
+        number: reply.number() as u32,
+        place: reply.number(),
+        energy: reply.number() as i32,
+    };
+    reply.back(bases, bases_room);
+    reply.back(paired, paired_room);
+    reply.back(any, any_room);
+    reply.back(arms, arms_room);
+    reply.back(pairs, pairs_room);
+    least
 }
 
 pub unsafe fn ykm_replace(

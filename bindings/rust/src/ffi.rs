@@ -35,6 +35,13 @@ pub struct Counted {
     pub count: usize,
 }
 
+#[repr(C)]
+pub struct Least {
+    pub number: u32,
+    pub place: usize,
+    pub energy: i32,
+}
+
 #[cfg(not(feature = "bridge"))]
 extern "C" {
     pub fn ykm_version() -> u32;
@@ -85,6 +92,20 @@ extern "C" {
         pairs: *mut u16,
         pairs_length: usize,
     ) -> Counted;
+    pub fn ykm_zuker_mfe(
+        seq: *const u8,
+        seq_length: usize,
+        bases: *mut u8,
+        bases_length: usize,
+        paired: *mut i32,
+        paired_length: usize,
+        any: *mut i32,
+        any_length: usize,
+        arms: *mut i32,
+        arms_length: usize,
+        pairs: *mut u16,
+        pairs_length: usize,
+    ) -> Least;
     pub fn ykm_replace(
         record: Record,
         bases: *mut u8,

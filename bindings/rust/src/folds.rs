@@ -105,6 +105,58 @@ pub fn nussinov(
     })
 }
 
+/// What a cell of the energy tables holds that has no structure of its kind.
+pub const NO_STRUCTURE: i32 = 1_000_000_000;
+
+/// The least energy in thousandths of kcal/mol, with the kept letters, the three tables and the
+/// structure's pair table. Of each span the tables hold the least energy with its two ends paired, of
+/// any structure, and as one or more arms of a many-armed loop; [`NO_STRUCTURE`] where there is none.
+///
+/// # Errors
+///
+/// 3; 1; 2 at the first byte that is no base; 4 if `bases` or `pairs` is shorter than the
+/// sequence, or one of the tables than [`cells_of`] its length.
+///
+/// ```
+/// use yukemasop::folds::{self, cells_of};
+///
+/// let (mut bases, mut pairs) = ([0; 10], [0; 10]);
+/// let [mut paired, mut any, mut arms] = [[0; cells_of(10)]; 3];
+/// let energy = folds::zuker_mfe(b"GGGAAAACCC", &mut bases, &mut paired, &mut any, &mut arms, &mut pairs);
+/// assert_eq!(energy, Ok(-1800));
+/// assert_eq!(&pairs[..3], &[9, 8, 7]);
+/// // The span from 0 to 9 is the whole strand; the one from 0 to 3 has no pair.
+/// assert_eq!((any[9 * 10 / 2], paired[3 * 4 / 2]), (-1800, folds::NO_STRUCTURE));
+/// ```
+pub fn zuker_mfe(
+    seq: &[u8],
+    bases: &mut [u8],
+    paired: &mut [i32],
+    any: &mut [i32],
+    arms: &mut [i32],
+    pairs: &mut [u16],
+) -> Result<i32> {
+    // SAFETY: the six slices are whole, and the borrow checker keeps them apart.
+    let least = unsafe {
+        ffi::ykm_zuker_mfe(
+            seq.as_ptr(),
+            seq.len(),
+            bases.as_mut_ptr(),
+            bases.len(),
+            paired.as_mut_ptr(),
+            paired.len(),
+            any.as_mut_ptr(),
+            any.len(),
+            arms.as_mut_ptr(),
+            arms.len(),
+            pairs.as_mut_ptr(),
+            pairs.len(),
+        )
+    };
+    Refusal::judge(least.number, least.place)?;
+    Ok(least.energy)
+}
+
 /// Replaces the base at `position` by that of `byte`; gives the record and the count. Of the used cells it
 /// writes those of the spans that hold the position.
 ///

@@ -14,6 +14,7 @@ mod bases;
 mod bridge;
 mod counting;
 mod editor;
+mod energy;
 mod ffi;
 pub mod folds;
 mod refusal;
@@ -23,6 +24,7 @@ pub mod tables;
 pub use bases::{can_pair, pair_index, read_base};
 pub use counting::{nussinov, NussinovResult};
 pub use editor::Editor;
+pub use energy::{zuker_mfe, MfeResult};
 pub use refusal::{Refusal, Result};
 pub use structure::{base_pair_distance, mountain_distance, RnaSecondaryStructure};
 

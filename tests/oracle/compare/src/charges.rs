@@ -69,7 +69,7 @@ fn sized(table: &[i32], first: usize, size: usize) -> i32 {
 }
 
 /// What the hairpin of i and j costs.
-fn hairpin(bases: &[u8], i: usize, j: usize) -> i32 {
+pub fn hairpin(bases: &[u8], i: usize, j: usize) -> i32 {
     let size = j - i - 1;
     let purines = [bases[i + 1], bases[j - 1]]
         .iter()
@@ -80,7 +80,7 @@ fn hairpin(bases: &[u8], i: usize, j: usize) -> i32 {
 }
 
 /// The kind of a loop with one inner pair by its sides alone, and what it costs by that.
-fn own(bases: &[u8], (i, j): (usize, usize), (x, y): (usize, usize)) -> (Kind, i32) {
+pub fn own(bases: &[u8], (i, j): (usize, usize), (x, y): (usize, usize)) -> (Kind, i32) {
     let stack = || {
         let outer = pair(bases[i], bases[j]).expect("a pair of the six");
         let inner = pair(bases[x], bases[y]).expect("a pair of the six");

@@ -326,7 +326,7 @@ fn some_strand(random: &mut Random) -> Vec<u8> {
 }
 
 /// The strand as it is, or with one to three bytes changed to any.
-fn damaged(random: &mut Random, seq: &[u8]) -> Vec<u8> {
+pub fn damaged(random: &mut Random, seq: &[u8]) -> Vec<u8> {
     let mut seq = seq.to_vec();
     for _ in 0..random.below(4) {
         let at = random.below(seq.len());

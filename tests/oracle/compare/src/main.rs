@@ -8,6 +8,7 @@ mod bases;
 mod charges;
 mod counting;
 mod edits;
+mod energies;
 mod histories;
 mod loops;
 mod slow;
@@ -64,12 +65,13 @@ fn main() -> ExitCode {
         return ExitCode::from(u8::from(!tell(soak(&mut random, size))));
     }
     println!("seed {seed}, size {size}");
-    let parts: [fn(&mut Random, usize) -> Found; 5] = [
+    let parts: [fn(&mut Random, usize) -> Found; 6] = [
         |_, _| bases::compare(),
         structures::compare,
         counting::compare,
         edits::compare,
         loops::compare,
+        energies::compare,
     ];
     let passed = parts.iter().all(|part| tell(part(&mut random, size)));
     ExitCode::from(u8::from(!passed))
