@@ -1,16 +1,22 @@
--- What a span costs depends on its own entries alone: p and q agree from lo up to, but not including, hi.
+-- What a span costs depends on its own entries alone: p and q agree from lo up to, but not including, hi. And what a structure costs, on the bases
+-- of its own positions alone.
 use mathlib.Core.Path.{_≡_, refl}
 use mathlib.Core.Logic.{by-cases}
-use mathlib.Core.Bool.{false}
+use mathlib.Core.Bool.{true, false}
+use mathlib.Core.List.{List}
 use Prim.Native.Nat.{ℕ, zero, suc, _+_, _-_, _<_, _≤_}
 use native.Mathlib.Omega.{arith}
 use native.Mathlib.Decide.{decLt, ℕ-discrete}
 use lib.IntN.{_+ℤ_}
-use Rattle.ints.proofs.Ints.{ints, sum}
-use Rattle.structure.specs.Table.{unpaired, Fold}
+use lib.ListN.{length}
+use Rattle.ints.proofs.Ints.{ints, sum, either}
+use Rattle.bases.specs.Bases.{pairIndex}
+use Rattle.structure.specs.Table.{unpaired, view, Fold}
 use Rattle.structure.proofs.Folds as folds
-use Rattle.charges.specs.Loops.{Candidate, opening, arms, armsIn, first, kind, chargeAt, total}
+use Rattle.charges.specs.Charge.{chargeOf}
+use Rattle.charges.specs.Loops.{Candidate, Chargeable, mayClose, opening, arms, armsIn, first, firstIn, between, own, single, kindBy, kind, purines, chargeBy, chargeAt, total, energyOf}
 use Rattle.charges.proofs.Walk.{shut-none, shut-low, total-free, total-open, first-le}
+use Rattle.charges.proofs.Openings.{closes, foremost}
 
 module _ (p q : ℕ → ℕ) where
   arms-moved : (n s k : ℕ) → ((x : ℕ) → k ≤ x → x < k + n → q x ≡ p x) → arms q n s k ≡ arms p n s k
@@ -85,3 +91,46 @@ module _ (p q : ℕ → ℕ) where
         fold = folds.moved s (a .fold);
         each = λ k l r o n. let e = s k l r in rw e (a .each k l r (omega arith) (omega arith));
       }
+
+-- ---- other bases: b and b′ agree on the positions of a structure
+kind-bases : (b b′ : ℕ → ℕ) (i j m x y : ℕ) → own b i j x y ≡ own b′ i j x y → kindBy b i j m x y ≡ kindBy b′ i j m x y
+unfolding kindBy single
+kind-bases b b′ i j zero x y e = refl
+kind-bases b b′ i j (suc zero) x y e = rw e
+kind-bases b b′ i j (suc (suc m)) x y e = refl
+
+module _ (b b′ t : List ℕ) (r : Chargeable b t) (s : (k : ℕ) → k < length t → view b k ≡ view b′ k) where
+  charge-bases : (i : ℕ) → i < length t → opening i (view t i) ≡ true → chargeAt (view b) (view t) i ≡ chargeAt (view b′) (view t) i
+  unfolding chargeAt chargeBy kind own
+  charge-bases i h o =
+      let c = closes b t r i h o in
+      let up = c .up in
+      let within = c .within in
+      let f = foremost b t r i h o in
+      let to = f .to in
+      let j = view t i in
+      let x = firstIn (view t) (suc i) j in
+      let y = view t x in
+      let ei = s i h in
+      let ej = s j within in
+      let ex = s x (omega arith) in
+      let ey = s y (f .mate) in
+      let k = kind-bases (view b) (view b′) i j (armsIn (view t) (suc i) j) x y
+      (λ z. chargeOf (between (x - suc i) (j - suc y)) (pairIndex (ei z) (ej z)) (pairIndex (ex z) (ey z)) 0) in
+      λ z. chargeOf (k z) (pairIndex (ei z) (ej z)) (pairIndex (ex z) (ey z)) (purines (s (i + 1) (omega arith) z) (s (j - 1) (omega arith) z))
+
+  total-bases : (k : ℕ) → k ≤ length t → total (view b) (view t) k ≡ total (view b′) (view t) k
+  unfolding total
+  total-bases zero h = refl
+  total-bases (suc k) h =
+      either (opening k (view t k)) (λ o. rw (o, total-bases k (omega arith), charge-bases k (omega arith) o)) (λ o. rw (o, total-bases k (omega arith)))
+
+  pub energy-bases : energyOf b t ≡ energyOf b′ t
+  energy-bases = total-bases (length t) (omega arith)
+
+pub candidate-bases : (b b′ p : ℕ → ℕ) (n : ℕ) → ((k : ℕ) → k < n → b k ≡ b′ k) → Candidate b p 0 n → Candidate b′ p 0 n
+unfolding mayClose
+candidate-bases b b′ p n s c = record {
+  fold = c .fold;
+  each = λ k l h o u. rw (← s k h, ← s (p k) (c .fold .mate k l h u .1)) (c .each k l h o u);
+}

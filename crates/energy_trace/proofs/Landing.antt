@@ -135,7 +135,8 @@ module _ (n : ℕ) where
       let s = ih job k hi (l .1) (go job lo k o) in
       record { long = s .long ∙ r .long; rest = λ k h. s .rest k h ∙ r .rest k h }
 
-  trace-kept : (b : Bases) (v w m : Table) (f : ℕ) (job : Job) (lo hi : ℕ) → Spot job lo hi n → (o : List ℕ) → Kept o (traceOf f (moveOf b v w m) job lo hi o)
+  trace-kept : (b : Bases) (v w m : Table) (f : ℕ) (job : Job) (lo hi : ℕ) → Spot job lo hi n → (o : List ℕ)
+      → Kept o (traceOf f (moveOf b v w m) job lo hi o)
   unfolding traceOf
   trace-kept b v w m zero job lo hi s o = record { long = refl; rest = λ k h. refl }
   trace-kept b v w m (suc f) job lo hi s o =

@@ -19,7 +19,7 @@ use Rattle.energy_rule.specs.Rule.{energies}
 use Rattle.energy_rule.specs.Meaning.{energyIn}
 use Rattle.energy_rule.specs.Memory.{table, three}
 use Rattle.energy_rule.proofs.Laws.{right-ruled, w-most}
-use Rattle.energy_rule.proofs.Moved.{total-moved, candidate-moved}
+use Rattle.energy_rule.proofs.Moved.{total-moved, candidate-moved, energy-bases, candidate-bases}
 use Rattle.energy_rule.proofs.Optimal.{any-least}
 use Rattle.energy_trace.specs.Trace.{tracedOf}
 use Rattle.energy_trace.proofs.Landing.{traced-long}
@@ -33,6 +33,30 @@ pub record Cheapest (b : List ℕ) (n : ℕ) (t : List ℕ) (z : ℤ) : Type 0 w
   pub reached : energyOf b t ≡ z
   pub least : (u : List ℕ) → length u ≡ n → Candidate (view b) (view u) 0 n → z ≤ℤ energyOf b u
   pub most : z ≤ℤ pos 0
+
+-- it is so of any bases with the same first n
+pub cheapest-same : (b b′ : List ℕ) (n : ℕ) (t : List ℕ) (z : ℤ) → ((k : ℕ) → k < n → view b k ≡ view b′ k) → n ≤ length b′ → Cheapest b n t z
+    → Cheapest b′ n t z
+cheapest-same b b′ n t z s h c =
+    let e = c .long in
+    let a = c .chargeable in
+    let room = a .bases in
+    let short = a .short in
+    record {
+      long = e;
+      sound = c .sound;
+      chargeable = record {
+        candidate = candidate-bases (view b) (view b′) (view t) (length t) (λ k l. s k (omega arith)) (a .candidate);
+        bases = omega arith;
+        short = short;
+      };
+      reached = sym (energy-bases b b′ t a (λ k l. s k (omega arith))) ∙ c .reached;
+      least = λ u l p.
+          let q = candidate-bases (view b′) (view b) (view u) n (λ k g. sym (s k g)) p in
+          let x : Chargeable b u = record { candidate = rw l q; bases = omega arith; short = omega arith } in
+          subst (λ (y : ℤ). z ≤ℤ y) (energy-bases b b′ u x (λ k g. s k (omega arith))) (c .least u l q);
+      most = c .most;
+    }
 
 -- the energy of a span from the start
 from-start : (b p : ℕ → ℕ) (n : ℕ) → energyIn b p 0 n ≡ total b p n
