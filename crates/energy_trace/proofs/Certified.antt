@@ -21,7 +21,7 @@ use Rattle.energy_rule.specs.Memory.{table, three}
 use Rattle.energy_rule.proofs.Ruling.{triple, energies-local}
 use Rattle.energy_trace.specs.Choosing.{same}
 use Rattle.energy_trace.specs.Trace.{tracedOf}
-use Rattle.energy_trace.proofs.Landing.{traced-long}
+use Rattle.energy_trace.proofs.Kept.{traced-long}
 use Rattle.energy_trace.proofs.Reached.{same-yes}
 use Rattle.energy_trace.proofs.Same.{traced-same}
 

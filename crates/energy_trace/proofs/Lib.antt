@@ -1,7 +1,8 @@
 -- Laws that belong to no one function.
 pub mod Searching
+pub mod Moving
 pub mod Reached
-pub mod Landing
+pub mod Kept
 pub mod Same
 pub mod Whole
 pub mod Certified

@@ -33,7 +33,7 @@ use Rattle.energy_trace.specs.declared.choice.Job.{Job}
 use Rattle.energy_trace.specs.declared.choice.Job.the-variants.{Any, Arms, Closed}
 use Rattle.energy_trace.specs.declared.choice.Move.{Move}
 use Rattle.energy_trace.specs.declared.choice.Move.the-variants.{Stop, Go, Close, Twice}
-use Rattle.energy_trace.proofs.Landing.{Lands, move-lands}
+use Rattle.energy_trace.proofs.Moving.{Falls, stops, goes, closes, parts, move-falls}
 
 -- ---- searches
 first-same : (test test′ : ℕ → Bool) (m k : ℕ) → ((x : ℕ) → k ≤ x → x < k + m → test x ≡ test′ x) → firstOf test k m ≡ firstOf test′ k m
@@ -152,11 +152,11 @@ module _ (n : ℕ) where
     -- ---- what they write
     act-same : (go go′ : Job → ℕ → ℕ → List ℕ → List ℕ)
         → ((job : Job) (lo hi : ℕ) → Spot job lo hi n → (o o′ : List ℕ) → Agree n o o′ → Agree n (go job lo hi o) (go′ job lo hi o′))
-        → (move : Move) → Lands n move → (o o′ : List ℕ) → Agree n o o′ → Agree n (act go move o) (act go′ move o′)
-    act-same go go′ ih Stop l o o′ a = a
-    act-same go go′ ih (Go job lo hi) l o o′ a = ih job lo hi l o o′ a
-    act-same go go′ ih (Close i j) l o o′ a = ih Closed i j l _ _ (agree-joined n o o′ i j a)
-    act-same go go′ ih (Twice job lo k hi) l o o′ a = ih job k hi (l .1) _ _ (ih job lo k (l .0) o o′ a)
+        → (lo hi : ℕ) (move : Move) → Falls n lo hi move → (o o′ : List ℕ) → Agree n o o′ → Agree n (act go move o) (act go′ move o′)
+    act-same go go′ ih lo hi Stop stops o o′ a = a
+    act-same go go′ ih lo hi (Go job from to) (goes s h) o o′ a = ih job from to s o o′ a
+    act-same go go′ ih lo hi (Close i j) (closes h l s) o o′ a = ih Closed i j (h, l) _ _ (agree-joined n o o′ i j a)
+    act-same go go′ ih lo hi (Twice job from k to) (parts s u h l) o o′ a = ih job k to u _ _ (ih job from k s o o′ a)
 
     trace-same : (f : ℕ) (job : Job) (lo hi : ℕ) → Spot job lo hi n → (o o′ : List ℕ) → Agree n o o′
         → Agree n (traceOf f (moveOf b v w m) job lo hi o) (traceOf f (moveOf b′ v′ w′ m′) job lo hi o′)
@@ -167,7 +167,7 @@ module _ (n : ℕ) where
         let go′ = traceOf f (moveOf b′ v′ w′ m′) in
         let move = moveOf b v w m job lo hi in
         subst (λ (x : Move). Agree n (act go move o) (act go′ x o′)) (move-same job lo hi s)
-        (act-same go go′ (trace-same f) move (move-lands n b v w m job lo hi s) o o′ a)
+        (act-same go go′ (trace-same f) lo hi move (move-falls b v w m n lo hi job s) o o′ a)
 
 -- two tracebacks agree on the first n positions where their first n bases do, and the cells of these
 pub traced-same : (b b′ : List ℕ) (v v′ w w′ m m′ : List ℤ) (n : ℕ) (o o′ : List ℕ) → 0 < n → n ≤ length o → n ≤ length o′

@@ -22,7 +22,7 @@ use Rattle.energy_rule.proofs.Laws.{right-ruled, w-most}
 use Rattle.energy_rule.proofs.Moved.{total-moved, candidate-moved, energy-bases, candidate-bases}
 use Rattle.energy_rule.proofs.Optimal.{any-least}
 use Rattle.energy_trace.specs.Trace.{tracedOf}
-use Rattle.energy_trace.proofs.Landing.{traced-long}
+use Rattle.energy_trace.proofs.Kept.{traced-long}
 use Rattle.energy_trace.proofs.Reached.{traced-candidate, traced-energy}
 
 -- t is a structure of the first n bases that costs z, and no candidate of theirs costs less
