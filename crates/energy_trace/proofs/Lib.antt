@@ -8,5 +8,4 @@ pub mod Whole
 pub mod Certified
 pub mod Vectors
 pub mod Readiness
-pub mod Moving
 pub mod Tracing
