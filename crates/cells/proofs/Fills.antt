@@ -10,8 +10,8 @@ use lib.Seq.{getD-set-same, getD-set-other}
 use Rattle.cells.specs.Tri.{tri, place}
 use Rattle.cells.specs.Rule.{Bases, Cells, Rule, SameInside, Local, Right}
 use Rattle.cells.specs.Fill.{at, trio, FineInside, FineFrom, Fine, Keeps, Rows, Columns, FineElse}
-use Rattle.cells.proofs.Places.{less-or, three, tri-below, place-column, place-row, cell-at}
-use Rattle.cells.proofs.Rules.{untouched, replaced, added}
+use Rattle.cells.proofs.Places.{less-or, three, tri-mono, tri-below, place-column, place-row, cell-at}
+use Rattle.cells.proofs.Rules.{unique, untouched, replaced, added}
 
 -- g′ is g but for what stands at the place p, which is v
 pub record Put {A : Type 0} (g g′ : ℕ → A) (p : ℕ) (v : A) : Type 0 where
@@ -222,3 +222,16 @@ pub right-fine :
     {A : Type 0} (rule : Rule A) (Ok : Bases → ℕ → ℕ → A → Type 0) → Keeps rule Ok → (b : Bases) (c : Cells A) (n : ℕ) → Right rule b c n →
     Fine (Ok b) c n
 right-fine rule Ok keeps b c n r i j h l = fine-below rule Ok keeps b c n r (suc j) i j h l (omega arith)
+
+-- two right tables of the same bases that agree past their cells agree everywhere
+pub right-one :
+    {A : Type 0} (rule : Rule A) (loc : Local rule) (b : Bases) (g g′ : ℕ → A) (n : ℕ) → Right rule b (at g) n → Right rule b (at g′) n →
+    ((k : ℕ) → tri n ≤ k → g k ≡ g′ k) → (k : ℕ) → g k ≡ g′ k
+right-one rule loc b g g′ n r r′ spare k = ⊎-elim used (spare k) (less-or k (tri n))
+  where
+    used : k < tri n → g k ≡ g′ k
+    used h =
+        let c = cell-at k in
+        let here : k ≡ tri (c .column) + c .row = c .here in
+        let within : c .column < n = ⊎-elim (λ l. l) (λ l. absurd (omega (arith, tri-mono n (c .column) l))) (less-or (c .column) n) in
+        rw (c .here) (unique rule loc b b (at g) (at g′) n (λ i l. refl) r r′ (c .row) (c .column) (c .inside) within)

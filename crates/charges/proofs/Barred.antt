@@ -1,15 +1,15 @@
 -- Pairs that may not close a loop: where none is found, a sound table is a candidate.
-use mathlib.Core.Path.{_≡_, refl, sym, ap, _∙_}
+use mathlib.Core.Path.{_≡_, refl, sym, _∙_}
 use mathlib.Core.Logic.{_≢_, by-cases}
-use mathlib.Core.Bool.{Bool, true, false, not, true≢false, cond, _&&_}
+use mathlib.Core.Bool.{true, false, true≢false}
 use mathlib.Core.List.{List}
-use Prim.Native.Nat.{ℕ, zero, suc, _+_, _-_, _<_, _≤_}
+use Prim.Native.Nat.{ℕ, zero, suc, _+_, _<_, _≤_}
 use native.Mathlib.Omega.{arith}
 use native.Mathlib.Decide.{ℕ-discrete}
 use lib.ListN.{length}
 use Rattle.structure.specs.Table.{unpaired, view, Sound}
 use Rattle.ints.proofs.Ints.{either}
-use Rattle.charges.specs.Loops.{mayClose, opening, bars, barred, firstBarred, Candidate}
+use Rattle.charges.specs.Loops.{mayClose, bars, barred, firstBarred, Candidate}
 use Rattle.charges.proofs.Walk.{opens-up}
 
 module _ (b p : ℕ → ℕ) where

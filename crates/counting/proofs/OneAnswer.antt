@@ -1,21 +1,16 @@
 -- Each call has one permitted answer for its input, and one permitted content of lent memory: a right table is the only one of its bases,
 -- an edit rewrites its columns in one way, and all that isn't a used cell is as it came. Assumes nothing.
-use mathlib.Core.Path.{_≡_, refl, sym, ap, subst, _∙_}
-use mathlib.Core.Logic.{⊎-elim}
+use mathlib.Core.Path.{_≡_, sym, ap, subst, _∙_}
 use mathlib.Core.List.{List}
-use Prim.Native.Nat.{ℕ, _+_, _<_}
-use native.Mathlib.Omega.{arith}
+use Prim.Native.Nat.{ℕ, _+_}
 use lib.ListN.{length}
 use lib.Seq.{ext-getD}
 use Rattle.refusals.specs.declared.Refusal.{Refusal}
 use Rattle.refusals.proofs.Laws.{one-of, one-refusal}
 use Rattle.bases.specs.Bases.{normal}
 use Rattle.structure.specs.Table.{view}
-use Rattle.cells.specs.Tri.{tri}
-use Rattle.cells.specs.Fill.{at, Columns}
-use Rattle.cells.proofs.Places.{less-or, tri-mono, cell-at}
-use Rattle.cells.proofs.Rules.{unique}
-use Rattle.cells.proofs.Fills.{columns-one}
+use Rattle.cells.specs.Fill.{Columns}
+use Rattle.cells.proofs.Fills.{right-one, columns-one}
 use Rattle.count_rule.specs.Rule.{nussinov, Half}
 use Rattle.count_rule.proofs.Laws.{nussinov-local, nussinov-keeps}
 use Rattle.count_fill.specs.Filled.{Filled}
@@ -32,16 +27,7 @@ use Rattle.counting.specs.Calls.{countOf, Made, Folds, Wrote, Replaces, 
 one-filling : (gap : ℕ) (b t t′ t″ : List ℕ) (n : ℕ) → Filled gap b t t′ n → Filled gap b t t″ n → t′ ≡ t″
 one-filling gap b t t′ t″ n f g =
     ext-getD 0 t′ t″ (f .long ∙ sym (g .long))
-    (λ k h. ⊎-elim used (λ l. f .spare k l ∙ sym (g .spare k l)) (less-or k (tri n)))
-  where
-    used : {k : ℕ} → k < tri n → view t′ k ≡ view t″ k
-    used {k} h =
-        let c = cell-at k in
-        let here : k ≡ tri (c .column) + c .row = c .here in
-        let within : c .column < n = ⊎-elim (λ l. l) (λ l. absurd (omega (arith, tri-mono n (c .column) l))) (less-or (c .column) n) in
-        rw (c .here)
-        (unique (nussinov gap) (nussinov-local gap) (view b) (view b) (at (view t′)) (at (view t″)) n (λ i l. refl) (f .right) (g .right)
-        (c .row) (c .column) (c .inside) within)
+    (λ k h. right-one (nussinov gap) (nussinov-local gap) (view b) (view t′) (view t″) n (f .right) (g .right) (λ x l. f .spare x l ∙ sym (g .spare x l)) k)
 
 one-making :
     (s : List ℕ) (gap : ℕ) (b b′ b″ t t′ t″ o o′ o″ : List ℕ) → Made s gap b b′ t t′ o o′ → Made s gap b b″ t t″ o o″ →
