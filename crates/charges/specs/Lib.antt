@@ -2,3 +2,4 @@
 pub mod Figures
 pub mod Charge
 pub mod Loops
+pub mod Sides

@@ -17,7 +17,7 @@ ghost use lib.IntN.{pos};
 ghost use lib.ListN.{length, getD};
 ghost use Rattle.ints.specs.Ints.{Small};
 ghost use Rattle.charges.specs.Figures.{smallestHairpin, tabled, longest, longestSide, slopeMost};
-ghost use Rattle.charges.specs.Charge.{mismatch, long, sized, hairpinOf, stackAt, bulgeOf, slant, internalOf, manyOf};
+ghost use Rattle.charges.specs.Charge.{mismatch, long, internal, sized, hairpinOf, stackAt, bulgeOf, slant, internalOf, manyOf};
 
 // What a size above 30 adds to the figure of 30.
 fn long_term(size: usize) -> i32
@@ -103,19 +103,27 @@ fn capped(tenths: usize) -> usize
 }
 
 // What the difference of the sides adds.
-fn slanted(left: usize, right: usize) -> i32
+pub fn slanted(left: usize, right: usize) -> i32
     requires { ⌜ (left ≤ longestSide) × (right ≤ longestSide) ⌝ }
     ensures { λ r. ⌜ r ≡ pos (slant left right) ⌝ }
 {
     (100 * capped(SLOPE * apart(left, right))) as i32
 }
 
+// The figure of an internal loop of a size, before the slant.
+pub fn internal_size(size: usize) -> i32
+    requires { ⌜ (2 ≤ size) × (size ≤ longest) ⌝ }
+    ensures { λ r. ⌜ r ≡ sized internal 2 size ⌝ }
+{
+    let table = INTERNAL;
+    sized(&table, 2, size)
+}
+
 pub fn internal(left: usize, right: usize) -> i32
     requires { ⌜ (1 ≤ left) × (left ≤ longestSide) × (1 ≤ right) × (right ≤ longestSide) ⌝ }
     ensures { λ r. ⌜ r ≡ internalOf left right ⌝ }
 {
-    let table = INTERNAL;
-    let own = sized(&table, 2, left + right);
+    let own = internal_size(left + right);
     ints::add(own, slanted(left, right))
 }
 

@@ -2,6 +2,7 @@
 // These are inner parts: who calls them has tested that the structure is sound and that each of its pairs may close a loop.
 mod figures;
 mod inner;
+mod sided;
 mod tables;
 
 use crate::tables::SMALLEST_HAIRPIN;
@@ -14,6 +15,7 @@ ghost use Rattle.bases.specs.Bases.{canPair};
 ghost use Rattle.structure.specs.Table.{view, Sound};
 ghost use Rattle.charges.specs.Figures.{smallestHairpin, longestSide, longest};
 ghost use Rattle.charges.specs.Charge.{chargeOf, Figured};
+ghost use Rattle.charges.specs.Sides.{sideCount, Sides};
 ghost use Rattle.charges.specs.Loops.{mayClose, bars, firstBarred, opening, between, own, single, kind, purines, hairpinAt, chargeAt, energyOf, Chargeable};
 
 // What closing a many-armed loop costs, and each of its inner pairs.
@@ -23,6 +25,9 @@ pub const ARM: usize = 400;
 
 // The longest side of a bulge or an internal loop.
 pub const LONGEST_SIDE: usize = 29;
+
+// How many pairs of sides there are.
+pub const SIDES: usize = (LONGEST_SIDE + 1) * (LONGEST_SIDE + 1);
 
 // The loop of a closing pair, by kind: a hairpin of that many bases, a stack, a bulge of that many, an internal loop with its two sides, a many-armed loop with that many inner pairs.
 pub enum Loop {
@@ -133,6 +138,22 @@ pub fn own(bases: &[u8], i: usize, j: usize, x: usize, y: usize) -> i32
     let inner = bases::pair_index(bases[x], bases[y]);
     let kind = between(x - (i + 1), j - (y + 1));
     charge(kind, outer, inner, 0)
+}
+
+// Writes the charges of all loops with one inner pair by their two sides: once a fold, for a search that reads a lent slice, since a const table is copied at every read.
+pub fn sides(out: &mut [i32])
+    requires { ⌜ length (now out) ≡ sideCount ⌝ }
+    ensures { λ _. ⌜ Sides (now (out .exit)) ⌝ }
+{
+    let mut sizes = [0; sided::SIZES];
+    sided::by_size(&mut sizes);
+    let mut k = 0;
+    while k < SIDES {
+        let left = k % (LONGEST_SIDE + 1);
+        let right = k / (LONGEST_SIDE + 1);
+        out[k] = sided::entry(&sizes, left, right);
+        k += 1;
+    }
 }
 
 // The kind of the loop of i and j with the one inner pair x and y: many-armed only where that is cheaper, or a side is too long.
