@@ -1,6 +1,7 @@
 // The figures of each kind of loop, read from the tables.
 use crate::ARM;
 use crate::CLOSING;
+use crate::SMALLEST_HAIRPIN;
 use crate::tables::BULGE;
 use crate::tables::HAIRPIN;
 use crate::tables::INTERNAL;
@@ -8,7 +9,6 @@ use crate::tables::LONG;
 use crate::tables::MISMATCH;
 use crate::tables::SLOPE;
 use crate::tables::SLOPE_MOST;
-use crate::tables::SMALLEST_HAIRPIN;
 use crate::tables::STACK;
 use crate::tables::TABLED;
 ghost use mathlib.Core.Path.{_≡_};

@@ -5,7 +5,6 @@ mod inner;
 mod sided;
 mod tables;
 
-use crate::tables::SMALLEST_HAIRPIN;
 ghost use mathlib.Core.Path.{_≡_};
 ghost use mathlib.Core.Bool.{true, cond};
 ghost use Prim.Native.Nat.{suc, _+_, _-_, _<_, _≤_};
@@ -22,6 +21,9 @@ ghost use Rattle.charges.specs.Loops.{mayClose, bars, firstBarred, openi
 pub const CLOSING: usize = 3800;
 
 pub const ARM: usize = 400;
+
+// The smallest hairpin.
+pub const SMALLEST_HAIRPIN: usize = 3;
 
 // The longest side of a bulge or an internal loop.
 pub const LONGEST_SIDE: usize = 29;

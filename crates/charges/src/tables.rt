@@ -1,7 +1,4 @@
 // The figures in thousandths of kcal/mol: specs/Figures.antt has them as tenths, and the contracts of figures.rt tie the two together.
-// The smallest hairpin.
-pub const SMALLEST_HAIRPIN: usize = 3;
-
 // The largest size that has a figure of its own.
 pub const TABLED: usize = 30;
 

@@ -1,0 +1,2 @@
+-- The laws of the search for inner pairs (Searching).
+pub mod Searching

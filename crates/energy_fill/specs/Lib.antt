@@ -1,0 +1,2 @@
+-- What the contracts of filling energy cells cite.
+pub mod Search
