@@ -1,2 +1,4 @@
 -- What the contracts of filling energy cells cite.
+pub mod Filled
+pub mod Passes
 pub mod Search
