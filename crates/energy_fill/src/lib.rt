@@ -1,6 +1,5 @@
 // Filling the three tables of the least-energy fold, in lent triangles, column after column.
 // One walk serves a fold and every edit: `columns` rewrites the rows up to `top` of the columns from `first` on.
-ghost use mathlib.Core.Path.{_≡_};
 ghost use Prim.Native.Nat.{_≤_};
 ghost use Rattle.structure.specs.Table.{view};
 ghost use Rattle.cells.specs.Fill.{at, FineElse, Columns};
