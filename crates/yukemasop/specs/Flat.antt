@@ -2,6 +2,7 @@
 use mathlib.Core.Path.{_≡_}
 use mathlib.Core.Bool.{cond}
 use Prim.Native.Nat.{ℕ, _-_, _^_}
+use lib.IntN.{pos}
 use Rattle.refusals.specs.Refusals.{number, place}
 use Rattle.refusals.specs.declared.Refusal.{Refusal}
 use Rattle.refusals.specs.declared.Place.{Place}
@@ -20,10 +21,13 @@ use Rattle.counting.specs.declared.Edited.the-variants.{Done, Refused as EditRe
 use Rattle.counting.specs.declared.Traced.{Traced}
 use Rattle.counting.specs.declared.Traced.the-variants.{Pairs, Refused as TraceRefused}
 use Rattle.counting.specs.declared.Record.{Record}
+use Rattle.energy.specs.declared.Minimum.{Minimum}
+use Rattle.energy.specs.declared.Minimum.the-variants.{Energy, Refused as MinimumRefused}
 use Rattle.yukemasop.specs.declared.flat.YkmBase.{YkmBase}
 use Rattle.yukemasop.specs.declared.flat.YkmAnswer.{YkmAnswer}
 use Rattle.yukemasop.specs.declared.flat.YkmRecord.{YkmRecord}
 use Rattle.yukemasop.specs.declared.flat.YkmCounted.{YkmCounted}
+use Rattle.yukemasop.specs.declared.flat.YkmLeast.{YkmLeast}
 
 -- no place is the largest number of 64 bits
 abbrev pub flatPlace : Place → ℕ
@@ -69,6 +73,11 @@ flatEdited (EditRefused q k) = record { number = number q; place = flatPlace (pl
 abbrev pub flatTraced : Traced → YkmAnswer
 flatTraced (Pairs m) = flatAnswer (Number m)
 flatTraced (TraceRefused q) = flatRefusal q
+
+-- an energy fold: 0, no place and the energy; a refusal: its number and place, and 0
+abbrev pub flatLeast : Minimum → YkmLeast
+flatLeast (Energy z) = record { number = 0; place = flatPlace Nowhere; energy = z }
+flatLeast (MinimumRefused q) = record { number = number q; place = flatPlace (place q); energy = pos 0 }
 
 -- the library's record of a flat one
 abbrev pub recordIn : YkmRecord → Record

@@ -2,13 +2,14 @@
 use counting::Counted;
 use counting::Edited;
 use counting::Traced;
+use energy::Minimum;
 use refusals::Place;
 use refusals::Refusal;
 use structure::Answer;
 use structure::Mate;
 use structure::Pairing;
 ghost use mathlib.Core.Path.{_≡_};
-ghost use Rattle.yukemasop.specs.Flat.{flatPlace, flatRefusal, flatAnswer, flatPairing, flatPartner, flatCounted, flatEdited, flatTraced};
+ghost use Rattle.yukemasop.specs.Flat.{flatPlace, flatRefusal, flatAnswer, flatPairing, flatPartner, flatCounted, flatEdited, flatTraced, flatLeast};
 
 #[repr(C)]
 pub struct YkmBase {
@@ -36,6 +37,13 @@ pub struct YkmCounted {
     pub place: usize,
     pub kept: YkmRecord,
     pub count: usize,
+}
+
+#[repr(C)]
+pub struct YkmLeast {
+    pub number: u32,
+    pub place: usize,
+    pub energy: i32,
 }
 
 pub fn flat_place(place: Place) -> usize
@@ -153,5 +161,22 @@ pub fn flat_traced(traced: Traced) -> YkmAnswer
     match traced {
         Traced::Pairs(count) => flat_number(count),
         Traced::Refused(refusal) => flat_refusal(refusal),
+    }
+}
+
+pub fn flat_least(minimum: Minimum) -> YkmLeast
+    ensures { λ r. ⌜ r ≡ flatLeast minimum ⌝ }
+{
+    match minimum {
+        Minimum::Energy(energy) => YkmLeast {
+            number: 0,
+            place: flat_place(Place::Nowhere),
+            energy,
+        },
+        Minimum::Refused(refusal) => YkmLeast {
+            number: refusals::number_of(refusal),
+            place: flat_place(refusals::place_of(refusal)),
+            energy: 0,
+        },
     }
 }

@@ -5,15 +5,17 @@ use counting::Record;
 use flat::YkmAnswer;
 use flat::YkmBase;
 use flat::YkmCounted;
+use flat::YkmLeast;
 use flat::YkmRecord;
 use refusals::Place;
 use refusals::Refusal;
 ghost use mathlib.Core.Path.{_≡_};
 ghost use Rattle.bases.specs.Bases.{reads, canPair, pairIndex};
 ghost use Rattle.counting.specs.Calls.{Folds, Replaces, Adds, Erases, Traces};
+ghost use Rattle.energy.specs.Calls.{Folds as EnergyFolds};
 ghost use Rattle.structure.specs.Calls.{Parses, Spells, Lists, Pairs, Partners, Counts, Measures};
 ghost use Rattle.structure.specs.Distance.{basePairDistance, mountainDistance};
-ghost use Rattle.yukemasop.specs.Flat.{flatBase, flatAnswer, flatPairing, flatPartner, flatCounted, flatEdited, flatTraced, recordIn, Flat};
+ghost use Rattle.yukemasop.specs.Flat.{flatBase, flatAnswer, flatPairing, flatPartner, flatCounted, flatEdited, flatTraced, flatLeast, recordIn, Flat};
 
 mod flat;
 
@@ -128,6 +130,20 @@ pub extern "C" fn ykm_nussinov(
     ensures { λ r. ⌜ Flat flatCounted (Folds (now (seq .entry)) gap (now (bases .entry)) (now (bases .exit)) (now (cells .entry)) (now (cells .exit)) (now (pairs .entry)) (now (pairs .exit))) r ⌝ }
 {
     flat::flat_counted(counting::nussinov(seq, gap, bases, cells, pairs))
+}
+
+#[no_mangle]
+pub extern "C" fn ykm_zuker_mfe(
+    seq: &[u8],
+    bases: &mut [u8],
+    paired: &mut [i32],
+    any: &mut [i32],
+    arms: &mut [i32],
+    pairs: &mut [u16],
+) -> YkmLeast
+    ensures { λ r. ⌜ Flat flatLeast (EnergyFolds (now (seq .entry)) (now (bases .entry)) (now (bases .exit)) (now (paired .entry)) (now (any .entry)) (now (arms .entry)) (now (paired .exit)) (now (any .exit)) (now (arms .exit)) (now (pairs .entry)) (now (pairs .exit))) r ⌝ }
+{
+    flat::flat_least(energy::zuker_mfe(seq, bases, paired, any, arms, pairs))
 }
 
 #[no_mangle]
