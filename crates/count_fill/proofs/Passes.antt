@@ -141,7 +141,7 @@ module _ (gap : ℕ) (b : Bases) (g₀ g₁ : ℕ → ℕ) (j from : ℕ) (h : f
       fresh u w = subst (AnyHalf i j) (sym (s .each i (omega arith))) (begun-half gap b (at g₀) i j w before)
 
   -- a started and settled column obeys the rule
-  pub settled-rows : (g : ℕ → ℕ) → Settled max both AnyHalf g₁ g j from 0 → Rows (nussinov gap) Half b g₀ g j from 0
+  pub settled-rows : (g : ℕ → ℕ) → Settled max both AnyHalf g g₁ g j from 0 → Rows (nussinov gap) Half b g₀ g j from 0
   settled-rows g r =
       record {
         left = λ k p. r .left k p ∙ s .left k p;

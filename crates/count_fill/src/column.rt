@@ -72,7 +72,7 @@ fn start(bases: &[u8], cells: &mut [u16], j: usize, to: usize, from: usize, gap:
 // One pass: the rows of the column at `col`, each plus `v`, are taken into the column at `to`. Stored without a test, so that it stays fast.
 fn raise(cells: &mut [u16], col: usize, to: usize, rows: usize, v: u16)
     requires { ⌜ (col + rows ≤ to) × (to + rows ≤ length (now cells)) × Fit (view (now cells)) col rows v ⌝ }
-    ensures { λ r. ⌜ Raised max (λ x. x + v) (view (now (cells .entry))) (view (now (cells .exit))) col to rows ⌝ }
+    ensures { λ r. ⌜ Raised max (λ x. x + v) (view (now (cells .entry))) (view (now (cells .entry))) (view (now (cells .exit))) col to rows ⌝ }
 {
     let mut i = 0;
     while i < rows {
@@ -86,7 +86,7 @@ fn raise(cells: &mut [u16], col: usize, to: usize, rows: usize, v: u16)
 // Every split of rows 0 to `from` of column j, from the last to the first: when (r, j) is final, it is taken into the rows before it.
 fn settle(cells: &mut [u16], j: usize, to: usize, from: usize)
     requires { ⌜ (to ≡ tri j) × (from ≤ j) × (j < 65535) × (tri (j + 1) ≤ length (now cells)) × Fine AnyHalf (at (view (now cells))) (j + 1) ⌝ }
-    ensures { λ r. ⌜ Settled max both AnyHalf (view (now (cells .entry))) (view (now (cells .exit))) j from 0 ⌝ }
+    ensures { λ r. ⌜ Settled max both AnyHalf (view (now (cells .exit))) (view (now (cells .entry))) (view (now (cells .exit))) j from 0 ⌝ }
 {
     let mut r = j;
     let mut col = to;

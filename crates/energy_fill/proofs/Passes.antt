@@ -137,7 +137,7 @@ range-step i k j v x y h l p q r =
 
 -- what a pass and a store make of the split after k
 module _ (g g′ : ℕ → ℤ) (j from k r col to n : ℕ) (v : ℤ) (e : r ≡ k + 1) (c : col ≡ tri k) (w : to ≡ tri j) (s : n ≡ min k (from + 1)) (x : v ≡ at g r j)
-    (d : Raised minℤ (λ x. addE x v) g g′ col to n) where
+    (d : Raised minℤ (λ x. addE x v) g g g′ col to n) where
   passed : (i : ℕ) → i < k → i ≤ from → at g′ i j ≡ minℤ (at g i j) (parts link (at g) i j k)
   passed i h m =
       ap (λ y. g′ (y + i)) (sym w)
@@ -145,7 +145,7 @@ module _ (g g′ : ℕ → ℤ) (j from k r col to n : ℕ) (v : ℤ) (e : r ≡
       ∙ ap₂ minℤ (ap (λ y. g (y + i)) w)
       (ap₂ addE (ap (λ y. g (y + i)) c) (x ∙ ap (λ y. at g y j) e) ∙ link-far i k _ _ (λ q. omega arith))
 
-  pub taken-far : from < k → Taken minℤ link g g′ j from k
+  pub taken-far : from < k → Taken minℤ link g g g′ j from k
   taken-far h =
       record {
         left = λ y q. d .left y (omega arith);
@@ -154,7 +154,7 @@ module _ (g g′ : ℕ → ℤ) (j from k r col to n : ℕ) (v : ℤ) (e : r ≡
         each = λ i q u. passed i (omega arith) u;
       }
 
-  pub taken-near : (g″ : ℕ → ℤ) (p : ℕ) (z : ℤ) → k ≤ from → p ≡ place k j → Put g′ g″ p z → z ≡ minℤ (g′ p) v → Taken minℤ link g g″ j from k
+  pub taken-near : (g″ : ℕ → ℤ) (p : ℕ) (z : ℤ) → k ≤ from → p ≡ place k j → Put g′ g″ p z → z ≡ minℤ (g′ p) v → Taken minℤ link g g g″ j from k
   taken-near g″ p z h q put t =
       record {
         left = λ y u. put .off y (λ o. omega arith) ∙ d .left y (omega arith);

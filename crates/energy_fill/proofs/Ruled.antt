@@ -123,8 +123,8 @@ module _ (b : Bases) (v₀ w₀ m₀ : ℕ → ℤ) (j from : ℕ) (h : from ≤
         (λ i p q. let r = after i p q .any in omega ints) s
 
     -- and both are settled: the column obeys the rule
-    module _ (w₁ w m₁ m : ℕ → ℤ) (sm : Started (begun armCharge mark (at v) (at m₀) j) m₀ m₁ j (from + 1)) (tm : Settled minℤ link InRange m₁ m j from 0)
-        (sw : Started (begun (pos 0) (pos 0) (at v) (at w₀) j) w₀ w₁ j (from + 1)) (tw : Settled minℤ link InRange w₁ w j from 0) where
+    module _ (w₁ w m₁ m : ℕ → ℤ) (sm : Started (begun armCharge mark (at v) (at m₀) j) m₀ m₁ j (from + 1)) (tm : Settled minℤ link InRange m m₁ m j from 0)
+        (sw : Started (begun (pos 0) (pos 0) (at v) (at w₀) j) w₀ w₁ j (from + 1)) (tw : Settled minℤ link InRange w w₁ w j from 0) where
       old-m : (i l : ℕ) → i ≤ l → l < j → at m i l ≡ at m₀ i l
       old-m i l p q = tm .left (place i l) (omega (arith, tri-below l j q)) ∙ sm .left (place i l) (omega (arith, tri-below l j q))
 

@@ -99,7 +99,7 @@ fn start(
 // One pass: the rows of the column at `col`, each with `v`, are taken into the column at `to`. Stored without a test, so that it stays fast.
 fn lower(cells: &mut [i32], col: usize, to: usize, rows: usize, v: i32)
     requires { ⌜ (col + rows ≤ to) × (to + rows ≤ length (now cells)) × Small v × Smalls (nums (now cells)) col rows ⌝ }
-    ensures { λ _. ⌜ Raised minℤ (λ x. addE x v) (nums (now (cells .entry))) (nums (now (cells .exit))) col to rows ⌝ }
+    ensures { λ _. ⌜ Raised minℤ (λ x. addE x v) (nums (now (cells .entry))) (nums (now (cells .entry))) (nums (now (cells .exit))) col to rows ⌝ }
 {
     let mut i = 0;
     while i < rows {
@@ -124,7 +124,7 @@ fn lift(cells: &mut [i32], at: usize, v: i32)
 // The split after r - 1 of rows 0 to `from` of column j. In row r - 1 it leaves that base unpaired, whatever its own cell holds.
 fn take(cells: &mut [i32], j: usize, col: usize, to: usize, from: usize, r: usize, v: i32)
     requires { ⌜ (0 < r) × (r ≤ j) × (from ≤ j) × (j < longest + 2) × (to ≡ tri j) × (col ≡ tri (r - 1)) × (tri (j + 1) ≤ length (now cells)) × (v ≡ at (nums (now cells)) r j) × Fine InRange (at (nums (now cells))) (j + 1) ⌝ }
-    ensures { λ _. ⌜ Taken minℤ link (nums (now (cells .entry))) (nums (now (cells .exit))) j from (r - 1) ⌝ }
+    ensures { λ _. ⌜ Taken minℤ link (nums (now (cells .entry))) (nums (now (cells .entry))) (nums (now (cells .exit))) j from (r - 1) ⌝ }
 {
     lower(cells, col, to, crate::inner::smaller(r - 1, from + 1), v);
     if from + 1 < r {
@@ -136,7 +136,7 @@ fn take(cells: &mut [i32], j: usize, col: usize, to: usize, from: usize, r: usiz
 // Every split of rows 0 to `from` of column j, from the last to the first: when (r, j) is final, it is taken into the rows before it.
 fn settle(cells: &mut [i32], j: usize, to: usize, from: usize)
     requires { ⌜ (to ≡ tri j) × (from ≤ j) × (j < longest + 2) × (tri (j + 1) ≤ length (now cells)) × Fine InRange (at (nums (now cells))) (j + 1) ⌝ }
-    ensures { λ _. ⌜ Settled minℤ link InRange (nums (now (cells .entry))) (nums (now (cells .exit))) j from 0 ⌝ }
+    ensures { λ _. ⌜ Settled minℤ link InRange (nums (now (cells .exit))) (nums (now (cells .entry))) (nums (now (cells .exit))) j from 0 ⌝ }
 {
     let mut r = j;
     let mut col = to;

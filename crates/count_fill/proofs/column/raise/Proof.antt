@@ -6,18 +6,18 @@ use lib.ListN.{length, length-set}
 use Rattle.cells.proofs.Fills.{put-set}
 use Rattle.structure.specs.Table.{view}
 use Rattle.cells.specs.Pass.{Raised}
-use Rattle.cells.proofs.Passes.{raised-none, raised-more}
+use Rattle.cells.proofs.Passes.{raised-none, raised-own}
 use Rattle.count_fill.proofs.column.raise.Statement.{statement}
 use Rattle.count_fill.proofs.column.raise.Tie as tie
 
 abbrev Inv-loop : tie.InvT-loop
-Inv-loop cells₀ col to rows v i₀ cells i = (i ≤ rows) × (length cells ≡ length cells₀) × Raised max (λ x. x + v) (view cells₀) (view cells) col to i
+Inv-loop cells₀ col to rows v i₀ cells i = (i ≤ rows) × (length cells ≡ length cells₀) × Raised max (λ x. x + v) (view cells₀) (view cells₀) (view cells) col to i
 
 abbrev μ-loop : tie.MeasureT-loop
 μ-loop cells₀ col to rows v i₀ cells i = rows - i
 
 loop-holds : tie.Need-loop-holds Inv-loop μ-loop
-loop-holds c = (omega arith, omega arith, raised-none max _ _ _ _)
+loop-holds c = (omega arith, omega arith, raised-none max _ _ _ _ _)
 
 add-one : tie.Need-add-one Inv-loop μ-loop
 add-one c = omega arith
@@ -66,7 +66,7 @@ loop-again c =
     let l = c .before .before .before .before .loop in (
       omega arith,
       simp length-set (l .inv .1),
-      raised-more max (λ x. x + c .before .before .before .before .before .before .args .v) _ _ _ _ _ (l .i) _ (omega arith) (put-set 0 (l .cells) _ _ (slice-write-cells c)) (c .larger .ensures) (l .inv .2),
+      raised-own max (λ x. x + c .before .before .before .before .before .before .args .v) _ _ _ _ _ (l .i) _ (omega arith) (put-set 0 (l .cells) _ _ (slice-write-cells c)) (c .larger .ensures) (l .inv .2),
     )
 
 same-length : tie.Need-same-length Inv-loop μ-loop
@@ -76,7 +76,7 @@ last : (c : tie.After-loop Inv-loop μ-loop) → c .before .loop .i ≡ c .befor
 last c = omega arith
 
 returns : tie.Need-returns Inv-loop μ-loop
-returns c = subst (Raised max (λ x. x + c .before .before .before .args .v) _ _ _ _) (last c) (c .before .loop .inv .2)
+returns c = subst (Raised max (λ x. x + c .before .before .before .args .v) _ _ _ _ _) (last c) (c .before .loop .inv .2)
 
 pub raise-spec : {M : Type 1} → statement M
 raise-spec =

@@ -16,7 +16,7 @@ use Rattle.count_fill.proofs.column.settle.Statement.{statement}
 use Rattle.count_fill.proofs.column.settle.Tie as tie
 
 abbrev Inv-loop : tie.InvT-loop
-Inv-loop cells₀ j to from r₀ col₀ cells r col = (r ≤ j) × (col ≡ tri r) × (length cells ≡ length cells₀) × Settled max both AnyHalf (view cells₀) (view cells) j from r
+Inv-loop cells₀ j to from r₀ col₀ cells r col = (r ≤ j) × (col ≡ tri r) × (length cells ≡ length cells₀) × Settled max both AnyHalf (view cells) (view cells₀) (view cells) j from r
 
 abbrev μ-loop : tie.MeasureT-loop
 μ-loop cells₀ j to from r₀ col₀ cells r col = r
@@ -68,7 +68,7 @@ loop-again c =
       omega (arith, tri-back (l .r) (omega arith)),
       c .before .before .raise .kept .0 ∙ l .inv .2,
       settled-next max both AnyHalf half-step _ _ _ _ _ (l .r) (l .r - 1) (omega arith) (omega arith) (omega arith)
-          (raised-taken max (λ x. x + v) both _ _ _ _ (l .r - 1) (l .r) _ _ _ (omega arith) (omega (arith, tri-back (l .r) (omega arith))) (s .pre .0)
+          (raised-taken max (λ x. x + v) both _ _ _ _ _ (l .r - 1) (l .r) _ _ _ (omega arith) (omega (arith, tri-back (l .r) (omega arith))) (s .pre .0)
           (c .before .before .before .smaller .ensures)
           (λ i h. omega (arith, ap (λ y. view (l .cells) (y + l .r)) (s .pre .0), ap (λ y. at (view (l .cells)) y (s .args .j)) back)) (c .before .before .raise .ensures)) (l .inv .3),
     )
@@ -80,7 +80,7 @@ zeroth : (c : tie.After-loop Inv-loop μ-loop) → c .before .loop .r ≡ 0
 zeroth c = omega arith
 
 returns : tie.Need-returns Inv-loop μ-loop
-returns c = subst (Settled max both AnyHalf _ _ _ _) (zeroth c) (c .before .loop .inv .3)
+returns c = subst (Settled max both AnyHalf _ _ _ _ _) (zeroth c) (c .before .loop .inv .3)
 
 pub settle-spec : {M : Type 1} → statement M
 settle-spec =

@@ -7,7 +7,7 @@ use mir.Syntax.{w32}
 use lib.ListN.{length, length-set}
 use lib.IntN.{ℤ, pos}
 use Rattle.cells.specs.Pass.{Raised}
-use Rattle.cells.proofs.Passes.{raised-none, raised-more}
+use Rattle.cells.proofs.Passes.{raised-none, raised-own}
 use Rattle.cells.proofs.Fills.{put-set}
 use Rattle.energy_rule.specs.Memory.{nums}
 use Rattle.ints.specs.Ints.{minℤ, addE}
@@ -16,13 +16,13 @@ use Rattle.energy_fill.proofs.column.lower.Statement.{statement}
 use Rattle.energy_fill.proofs.column.lower.Tie as tie
 
 abbrev Inv-loop : tie.InvT-loop
-Inv-loop cells₀ col to rows v i₀ cells i = (i ≤ rows) × (length cells ≡ length cells₀) × Raised minℤ (λ x. addE x (toZ w32 v)) (nums cells₀) (nums cells) col to i
+Inv-loop cells₀ col to rows v i₀ cells i = (i ≤ rows) × (length cells ≡ length cells₀) × Raised minℤ (λ x. addE x (toZ w32 v)) (nums cells₀) (nums cells₀) (nums cells) col to i
 
 abbrev μ-loop : tie.MeasureT-loop
 μ-loop cells₀ col to rows v i₀ cells i = rows - i
 
 loop-holds : tie.Need-loop-holds Inv-loop μ-loop
-loop-holds c = (omega arith, omega arith, raised-none minℤ _ _ _ _)
+loop-holds c = (omega arith, omega arith, raised-none minℤ _ _ _ _ _)
 
 add-cell : tie.Need-add-cell Inv-loop μ-loop
 add-cell c = omega arith
@@ -74,7 +74,7 @@ loop-again c =
     let y = c .before .before .before .before .cell in (
       omega arith,
       simp length-set (l .inv .1),
-      raised-more minℤ (λ x. addE x (bk (s .args .v))) _ _ _ _ _ (l .i) _ (omega arith) (put-set (pos 0) (l .cells) _ _ (slice-set-from-x c))
+      raised-own minℤ (λ x. addE x (bk (s .args .v))) _ _ _ _ _ (l .i) _ (omega arith) (put-set (pos 0) (l .cells) _ _ (slice-set-from-x c))
           (cc (plain (c .least .result) (c .least .ok), plain (p .result) (p .ok), plain (x .result) (x .ok), plain (y .result) (y .ok))) (l .inv .2),
     )
 
@@ -87,8 +87,8 @@ last c = omega arith
 returns : tie.Need-returns Inv-loop μ-loop
 returns c =
     let s = c .before .before in
-    subst (λ (z : ℤ). Raised minℤ (λ x. addE x z) (nums (s .args .cells .now)) (nums (c .before .loop .cells)) (s .args .col) (s .args .to) (s .args .rows))
-    (plain (s .args .v) (s .fits .v .sfits)) (subst (Raised minℤ (λ x. addE x (bk (s .args .v))) _ _ _ _) (last c) (c .before .loop .inv .2))
+    subst (λ (z : ℤ). Raised minℤ (λ x. addE x z) (nums (s .args .cells .now)) (nums (s .args .cells .now)) (nums (c .before .loop .cells)) (s .args .col) (s .args .to) (s .args .rows))
+    (plain (s .args .v) (s .fits .v .sfits)) (subst (Raised minℤ (λ x. addE x (bk (s .args .v))) _ _ _ _ _) (last c) (c .before .loop .inv .2))
 
 pub lower-spec : {M : Type 1} → statement M
 lower-spec =

@@ -18,7 +18,7 @@ use Rattle.energy_fill.proofs.column.settle.Tie as tie
 
 abbrev Inv-loop : tie.InvT-loop
 Inv-loop cells₀ j to from r₀ col₀ cells r col =
-    (r ≤ j) × (col ≡ tri r) × (length cells ≡ length cells₀) × Settled minℤ link InRange (nums cells₀) (nums cells) j from r
+    (r ≤ j) × (col ≡ tri r) × (length cells ≡ length cells₀) × Settled minℤ link InRange (nums cells) (nums cells₀) (nums cells) j from r
 
 abbrev μ-loop : tie.MeasureT-loop
 μ-loop cells₀ j to from r₀ col₀ cells r col = r
@@ -73,7 +73,7 @@ zeroth : (c : tie.After-loop Inv-loop μ-loop) → c .before .loop .r ≡ 0
 zeroth c = omega arith
 
 returns : tie.Need-returns Inv-loop μ-loop
-returns c = subst (Settled minℤ link InRange _ _ _ _) (zeroth c) (c .before .loop .inv .3)
+returns c = subst (Settled minℤ link InRange _ _ _ _ _) (zeroth c) (c .before .loop .inv .3)
 
 pub settle-spec : {M : Type 1} → statement M
 settle-spec =
