@@ -1,7 +1,7 @@
 -- What a table that is ready offers: its cells' places are in it, and so are those of every column before. Tables that can be traced are ready.
 -- Assumes nothing.
 use mathlib.Core.List.{List}
-use Prim.Native.Nat.{ℕ, _+_, _-_, _≤_, _<_}
+use Prim.Native.Nat.{ℕ, _+_, _≤_, _<_}
 use native.Mathlib.Nat.{le-trans}
 use native.Mathlib.Omega.{arith}
 use lib.IntN.{ℤ}
@@ -11,7 +11,6 @@ use Rattle.cells.proofs.Places.{place-below, tri-mono}
 use Rattle.structure.specs.Table.{view}
 use Rattle.charges.specs.Figures.{longest}
 use Rattle.charges.proofs.Charges.{longest-low}
-use Rattle.energy_rule.specs.Memory.{three, Room}
 use Rattle.energy_rule.proofs.Ruling.{ranged-small}
 use Rattle.energy_trace.specs.Trace.{Ready, Traceable}
 

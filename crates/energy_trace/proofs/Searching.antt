@@ -16,7 +16,7 @@ use Rattle.energy_trace.specs.declared.search.Found.the-variants.{At, No
 use Rattle.energy_trace.specs.declared.search.Within.{Within}
 use Rattle.energy_trace.specs.declared.search.Within.the-variants.{Pair, Nowhere}
 
--- ---- along places: at k, of what is left before j
+-- ---- along places: at k, of what is left before j; r is what the test answers there
 module _ (test : ℕ → Bool) where
   first-none : (k : ℕ) {m : ℕ} → m ≡ 0 → firstOf test k m ≡ Nothing
   unfolding firstOf
@@ -29,11 +29,12 @@ module _ (test : ℕ → Bool) where
   pub first-end : (k j : ℕ) → j ≤ k → firstOf test k (j - k) ≡ Nothing
   first-end k j h = first-none k (omega arith)
 
-  pub first-here : (k j : ℕ) → k < j → test k ≡ true → firstOf test k (j - k) ≡ At k
-  first-here k j h e = first-more k {l = j - (k + 1)} (omega arith) ∙ simp e
+  module _ (k j : ℕ) (h : k < j) {r : Bool} (e : r ≡ test k) where
+    pub first-here : r ≡ true → firstOf test k (j - k) ≡ At k
+    first-here q = first-more k {l = j - (k + 1)} (omega arith) ∙ simp (← e, q)
 
-  pub first-next : (k j : ℕ) → k < j → test k ≡ false → firstOf test k (j - k) ≡ firstOf test (k + 1) (j - (k + 1))
-  first-next k j h e = first-more k {l = j - (k + 1)} (omega arith) ∙ simp e
+    pub first-next : r ≡ false → firstOf test k (j - k) ≡ firstOf test (k + 1) (j - (k + 1))
+    first-next q = first-more k {l = j - (k + 1)} (omega arith) ∙ simp (← e, q)
 
 -- what was found passes, and is among the n numbers from k on; where nothing was, none passes
 pub data Sought (test : ℕ → Bool) (k n : ℕ) : Found → Type 0 where
@@ -50,7 +51,7 @@ sought test zero k = miss (λ x a c. absurd (omega arith))
 sought test (suc n) k =
     either (test k) (λ e. rw e (hit {x = k} (omega arith) (omega arith) e)) (λ e. rw e (sought-next e (sought test n (k + 1))))
 
--- ---- along rows: at k, of what is left before j
+-- ---- along rows: at k, of what is left before j; r is what its row finds
 module _ (row : ℕ → Found) where
   rows-none : (k : ℕ) {m : ℕ} → m ≡ 0 → firstRow row k m ≡ Nowhere
   unfolding firstRow
@@ -63,11 +64,12 @@ module _ (row : ℕ → Found) where
   pub rows-end : (k j : ℕ) → j ≤ k → firstRow row k (j - k) ≡ Nowhere
   rows-end k j h = rows-none k (omega arith)
 
-  pub rows-here : (k j y : ℕ) → k < j → row k ≡ At y → firstRow row k (j - k) ≡ Pair k y
-  rows-here k j y h e = rows-more k {l = j - (k + 1)} (omega arith) ∙ simp e
+  module _ (k j : ℕ) (h : k < j) {r : Found} (e : r ≡ row k) where
+    pub rows-here : {y : ℕ} → r ≡ At y → firstRow row k (j - k) ≡ Pair k y
+    rows-here q = rows-more k {l = j - (k + 1)} (omega arith) ∙ simp (← e, q)
 
-  pub rows-next : (k j : ℕ) → k < j → row k ≡ Nothing → firstRow row k (j - k) ≡ firstRow row (k + 1) (j - (k + 1))
-  rows-next k j h e = rows-more k {l = j - (k + 1)} (omega arith) ∙ simp e
+    pub rows-next : r ≡ Nothing → firstRow row k (j - k) ≡ firstRow row (k + 1) (j - (k + 1))
+    rows-next q = rows-more k {l = j - (k + 1)} (omega arith) ∙ simp (← e, q)
 
 -- what was found is its row's, and the row is among the n from k on; where nothing was, no row finds anything
 pub data Scanned (row : ℕ → Found) (k n : ℕ) : Within → Type 0 where

@@ -4,7 +4,7 @@ use crate::search;
 use crate::search::Found;
 use crate::search::Within;
 ghost use mathlib.Core.Path.{_≡_};
-ghost use Prim.Native.Nat.{_+_, _-_, _≤_, _<_};
+ghost use Prim.Native.Nat.{_+_, _-_, _<_};
 ghost use lib.ListN.{length};
 ghost use Rattle.structure.specs.Table.{view};
 ghost use Rattle.energy_rule.specs.Memory.{table};
@@ -90,10 +90,12 @@ fn shorter(job: Job, cells: &[i32], lo: usize, hi: usize) -> Move
     ensures { λ r. ⌜ r ≡ shorter job (table (now (cells .entry))) lo hi ⌝ }
 {
     let last = hi - 1;
-    if reach::alike(cells, lo + 1, last, cells, lo, last) {
-        return Move::Go(job, lo + 1, hi);
+    let second = lo + 1;
+    let before = last - 1;
+    if reach::alike(cells, second, last, cells, lo, last) {
+        return Move::Go(job, second, hi);
     }
-    if reach::alike(cells, lo, last - 1, cells, lo, last) {
+    if reach::alike(cells, lo, before, cells, lo, last) {
         return Move::Go(job, lo, last);
     }
     match search::splitting(cells, lo, last) {

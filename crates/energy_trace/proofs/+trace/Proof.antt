@@ -1,6 +1,6 @@
 -- `energy_trace::trace`, which calls itself, meets its contract: each arm writes what its move writes.
 -- The measure is the length of the span, hi − lo. Assumes nothing.
-use mathlib.Core.Path.{refl, sym, subst}
+use mathlib.Core.Path.{sym, subst}
 use Prim.Native.Nat.{ℕ, _-_, _<_}
 use native.Mathlib.Omega.{arith}
 use borrow.Author.Needs.{needs}

@@ -6,29 +6,26 @@ use borrow.Author.Needs.{needs}
 use Rattle.charges.proofs.Charges.{longest-low}
 use Rattle.energy_rule.specs.Memory.{table}
 use Rattle.energy_trace.specs.Choosing.{shorter}
-use Rattle.energy_trace.proofs.Searching.{splitting-in}
 use Rattle.energy_trace.proofs.Readiness.{ready-less}
+use Rattle.energy_trace.proofs.Searching.{splitting-in}
 use Rattle.energy_trace.proofs.choice.shorter.Statement.{statement}
 use Rattle.energy_trace.proofs.choice.shorter.Tie as tie
 
 sub-last : tie.Need-sub-last
 sub-last c = search needs
 
-add-alike : tie.Need-add-alike
-add-alike c = search needs
+add-second : tie.Need-add-second
+add-second c = search needs
+
+sub-before : tie.Need-sub-before
+sub-before c = search needs
 
 alike-requires : tie.Need-alike-requires
-alike-requires c κs = search needs
-
-add-t9 : tie.Need-add-t9
-add-t9 c = search needs
+alike-requires c κs = (omega arith, ready-less _ (c .args .hi - 1) _ (omega arith) (c .pre .1), omega arith, c .pre .1)
 
 returns : tie.Need-returns
 unfolding shorter
 returns c = simp (← c .before .alike .ensures, c .if1 .taken)
-
-sub-alike : tie.Need-sub-alike
-sub-alike c = search needs
 
 alike-requires-2 : tie.Need-alike-requires-2
 alike-requires-2 c κs =
@@ -47,6 +44,7 @@ splitting-requires c κs = search needs
 enum-known-k : tie.Need-enum-known-k
 enum-known-k c = search needs
 
+-- the split lies inside the span
 add-t13 : tie.Need-add-t13
 add-t13 c =
     let k = c .before in
@@ -93,11 +91,10 @@ shorter-spec =
     tie.close
     (tie.spec
     sub-last
-    add-alike
+    add-second
+    sub-before
     alike-requires
-    add-t9
     returns
-    sub-alike
     alike-requires-2
     returns-2
     splitting-requires

@@ -1,10 +1,9 @@
 -- `energy_trace::reach::cell` meets its contract: what is read stands at the cell's place, and a ready table has it small. Assumes nothing.
 use mathlib.Core.Path.{sym, ap, subst, _∙_}
 use native.Mathlib.Omega.{arith}
-use lib.IntN.{ℤ}
 use Rattle.ints.specs.Ints.{Small}
 use Rattle.ints.proofs.Ints.{is}
-use Rattle.energy_rule.specs.Memory.{nums, table}
+use Rattle.energy_rule.specs.Memory.{nums}
 use Rattle.energy_trace.proofs.Readiness.{ready-place}
 use Rattle.energy_trace.proofs.reach.cell.Statement.{statement}
 use Rattle.energy_trace.proofs.reach.cell.Tie as tie

@@ -1,7 +1,6 @@
 -- `energy_trace::reach::inner_at` meets its contract: where x and y may close a loop there is room between them, and the loop has a figure.
 -- Assumes nothing.
-use mathlib.Core.Path.{_≡_, sym, _∙_}
-use mathlib.Core.Bool.{true}
+use mathlib.Core.Path.{sym, _∙_}
 use native.Mathlib.Omega.{arith}
 use borrow.Author.Needs.{needs}
 use denote.Ref.{now}

@@ -38,7 +38,7 @@ inner-requires c κs =
 returns : tie.Need-returns Inv-loop μ-loop
 returns c =
     let t = c .before .before in
-    sym (t .before .loop .inv .1 ∙ first-here _ _ _ (t .loop-test .taken) (sym (c .before .inner .ensures) ∙ c .if1 .taken))
+    sym (t .before .loop .inv .1 ∙ first-here _ _ _ (t .loop-test .taken) (c .before .inner .ensures) (c .if1 .taken))
 
 add-y : tie.Need-add-y Inv-loop μ-loop
 add-y c = omega arith
@@ -50,7 +50,7 @@ loop-again : tie.Need-loop-again Inv-loop μ-loop
 loop-again c =
     let t = c .before .before in (
       omega arith,
-      t .before .loop .inv .1 ∙ first-next _ _ _ (t .loop-test .taken) (sym (c .before .inner .ensures) ∙ c .if1 .left),
+      t .before .loop .inv .1 ∙ first-next _ _ _ (t .loop-test .taken) (c .before .inner .ensures) (c .if1 .left),
     )
 
 returns-2 : tie.Need-returns-2 Inv-loop μ-loop

@@ -59,7 +59,7 @@ returns c =
     let y = c .before in
     let r = y .before .before in
     let t = r .before in
-    sym (t .before .loop .inv .2 ∙ rows-here _ _ _ _ (t .loop-test .taken) (sym (r .inner-row .ensures) ∙ y .y .given .1))
+    sym (t .before .loop .inv .2 ∙ rows-here _ _ _ (t .loop-test .taken) (r .inner-row .ensures) (y .y .given .1))
 
 enum-told : tie.Need-enum-told Inv-loop μ-loop
 enum-told c = search needs
@@ -76,7 +76,7 @@ loop-again c =
     let t = r .before in (
       omega arith,
       omega arith,
-      t .before .loop .inv .2 ∙ rows-next _ _ _ (t .loop-test .taken) (sym (r .inner-row .ensures) ∙ c .enum-told .given .1),
+      t .before .loop .inv .2 ∙ rows-next _ _ _ (t .loop-test .taken) (r .inner-row .ensures) (c .enum-told .given .1),
     )
 
 returns-2 : tie.Need-returns-2 Inv-loop μ-loop

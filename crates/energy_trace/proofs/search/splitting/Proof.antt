@@ -2,6 +2,7 @@
 use mathlib.Core.Path.{_≡_, refl, sym, _∙_}
 use Prim.Native.Nat.{_+_, _-_, _≤_}
 use native.Mathlib.Omega.{arith}
+use Rattle.charges.proofs.Charges.{longest-low}
 use Rattle.energy_rule.specs.Memory.{table}
 use Rattle.energy_trace.specs.Choosing.{firstOf, splitAt, splitting}
 use Rattle.energy_trace.proofs.Searching.{first-end, first-here, first-next}
@@ -9,17 +10,17 @@ use Rattle.energy_trace.proofs.search.splitting.Statement.{statement}
 use Rattle.energy_trace.proofs.search.splitting.Tie as tie
 
 abbrev Inv-loop : tie.InvT-loop
-Inv-loop cells i j k₀ k = (i + 1 ≤ k) × (k ≤ j) × (splitting (table cells) i j ≡ firstOf (splitAt (table cells) i j) k (j - k))
+Inv-loop cells i j k₀ k = (i + 1 ≤ k) × (splitting (table cells) i j ≡ firstOf (splitAt (table cells) i j) k (j - k))
 
 abbrev μ-loop : tie.MeasureT-loop
 μ-loop cells i j k₀ k = j - k
 
 add-k : tie.Need-add-k Inv-loop μ-loop
-add-k c = omega arith
+add-k c = let s = c .pre .1 .short in omega (arith, longest-low)
 
 loop-holds : tie.Need-loop-holds Inv-loop μ-loop
 unfolding splitting
-loop-holds c = (omega arith, omega arith, refl)
+loop-holds c = (omega arith, refl)
 
 split-requires : tie.Need-split-requires Inv-loop μ-loop
 split-requires c κs = (omega arith, omega arith, c .before .before .pre .1)
@@ -27,7 +28,7 @@ split-requires c κs = (omega arith, omega arith, c .before .before .pre .1)
 returns : tie.Need-returns Inv-loop μ-loop
 returns c =
     let t = c .before .before in
-    sym (t .before .loop .inv .2 ∙ first-here _ _ _ (t .loop-test .taken) (sym (c .before .split .ensures) ∙ c .if1 .taken))
+    sym (t .before .loop .inv .1 ∙ first-here _ _ _ (t .loop-test .taken) (c .before .split .ensures) (c .if1 .taken))
 
 add-k-2 : tie.Need-add-k-2 Inv-loop μ-loop
 add-k-2 c = omega arith
@@ -39,12 +40,11 @@ loop-again : tie.Need-loop-again Inv-loop μ-loop
 loop-again c =
     let t = c .before .before in (
       omega arith,
-      omega arith,
-      t .before .loop .inv .2 ∙ first-next _ _ _ (t .loop-test .taken) (sym (c .before .split .ensures) ∙ c .if1 .left),
+      t .before .loop .inv .1 ∙ first-next _ _ _ (t .loop-test .taken) (c .before .split .ensures) (c .if1 .left),
     )
 
 returns-2 : tie.Need-returns-2 Inv-loop μ-loop
-returns-2 c = sym (c .before .loop .inv .2 ∙ first-end _ _ _ (c .loop-test .left))
+returns-2 c = sym (c .before .loop .inv .1 ∙ first-end _ _ _ (c .loop-test .left))
 
 pub splitting-spec : {M : Type 1} → statement M
 splitting-spec =
