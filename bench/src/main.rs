@@ -2,6 +2,8 @@
 
 mod counting;
 mod edits;
+mod energies;
+mod growing;
 mod structures;
 
 use std::hint::black_box;
@@ -36,4 +38,6 @@ fn main() {
     counting::measure();
     println!();
     edits::measure();
+    println!();
+    energies::measure();
 }
