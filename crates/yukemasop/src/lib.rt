@@ -15,9 +15,7 @@ ghost use Rattle.counting.specs.Calls.{Folds, Replaces, Adds, Erases, Traces};
 ghost use Rattle.energy.specs.Calls.{Folds as EnergyFolds};
 ghost use Rattle.structure.specs.Calls.{Parses, Spells, Lists, Pairs, Partners, Counts, Measures};
 ghost use Rattle.structure.specs.Distance.{basePairDistance, mountainDistance};
-ghost use Rattle.yukemasop.specs.Flat.{flatBase, flatAnswer, flatPairing, flatPartner, flatCounted, flatEdited, flatTraced, flatLeast, recordIn, Flat};
-
-mod flat;
+ghost use Rattle.flat.specs.Flat.{flatBase, flatAnswer, flatPairing, flatPartner, flatCounted, flatEdited, flatTraced, flatLeast, recordIn, Flat};
 
 // 0.1.0, as major × 10,000 + minor × 100 + patch.
 pub const VERSION: u32 = 100;
