@@ -1,33 +1,31 @@
--- Loops with their kinds and charges, and a strand with its energy: one table, computed.
+-- Loops with their kinds and charges: one table, computed. Assumes nothing.
 use mathlib.Core.Path.{_≡_, refl}
 use mathlib.Core.List.{List, [], _∷_, _++_}
 use Prim.Native.Nat.{ℕ, suc, _+_}
 use lib.IntN.{ℤ, pos, negsuc}
 use lib.ListN.{replicate}
 use Rattle.bases.specs.Bases.{canPair, pairIndex, isPurine}
-use Rattle.structure.specs.Table.{unpaired, view, glyphs, brackets}
+use Rattle.structure.specs.Table.{unpaired, view}
 use Rattle.charges.specs.Figures as fig
 use Rattle.charges.specs.Charge.{hairpin, mismatch, bulge, internal, stack, long, sized, hairpinOf, stackAt, bulgeOf, slant, internalOf, manyOf, chargeOf}
-use Rattle.charges.specs.Loops.{arms, first, between, own, single, kindBy, kind, purines, chargeBy, chargeAt, total, energyOf}
+use Rattle.charges.specs.Loops.{arms, first, between, own, single, kindBy, kind, purines, chargeBy, chargeAt}
 use Rattle.charges.specs.declared.Loop.{Loop}
 use Rattle.charges.specs.declared.Loop.the-variants.{Hairpin, Stack, Bulge, Internal, Many}
 
--- a line: bases, pair table, the kind of the loop that opens at 0 and its charge; a kind's own figure; bases, pair table, its text and its energy
+-- a line: bases, pair table, the kind of the loop that opens at 0 and its charge; a kind's own figure
 pub data Line : Type 0 where
   loop : List ℕ → List ℕ → Loop → ℤ → Line
   figure : Loop → ℕ → ℕ → ℕ → ℤ → Line
-  strand : List ℕ → List ℕ → List ℕ → ℤ → Line
 
 -- what a line says
 abbrev pub Says : Line → Type 0
 Says (loop b t l z) = _≡_ {A = Loop × ℤ} (kind (view b) (view t) 0, chargeAt (view b) (view t) 0) (l, z)
 Says (figure l o i p z) = chargeOf l o i p ≡ z
-Says (strand b t s z) = _≡_ {A = List ℕ × ℤ} (brackets t, energyOf b t) (s, z)
 
--- every line of a table
-abbrev pub Every : List Line → Type 0
-Every [] = Unit {0}
-Every (line ∷ rest) = Says line × Every rest
+-- every line of a table, by what a line says
+abbrev pub Every : {L : Type 0} → (L → Type 0) → List L → Type 0
+Every says [] = Unit {0}
+Every says (line ∷ rest) = says line × Every says rest
 
 -- G, the bases of a hairpin, C
 abbrev hairpins : ℕ → List ℕ → Loop → ℤ → Line
@@ -72,16 +70,9 @@ table =
     ∷ figure (Bulge 29) 0 0 0 (pos 6000)
     ∷ figure (Internal 1 12) 0 0 0 (pos 5800)
     ∷ figure (Internal 29 29) 0 0 0 (pos 4311)
-    -- GGGAAACCC, (((...))); GGGAAAACCC, (((....))); GGGAAAAAAGGGAAACCCCCC, (((......(((...))))))
-    ∷ strand (71 ∷ 71 ∷ 71 ∷ 65 ∷ 65 ∷ 65 ∷ 67 ∷ 67 ∷ 67 ∷ []) (8 ∷ 7 ∷ 6 ∷ unpaired ∷ unpaired ∷ unpaired ∷ 2 ∷ 1 ∷ 0 ∷ []) (40 ∷ 40 ∷ 40 ∷ 46 ∷ 46 ∷ 46 ∷ 41 ∷ 41 ∷ 41 ∷ []) (negsuc 1199)
-    ∷ strand (71 ∷ 71 ∷ 71 ∷ 65 ∷ 65 ∷ 65 ∷ 65 ∷ 67 ∷ 67 ∷ 67 ∷ []) (9 ∷ 8 ∷ 7 ∷ unpaired ∷ unpaired ∷ unpaired ∷ unpaired ∷ 2 ∷ 1 ∷ 0 ∷ []) (40 ∷ 40 ∷ 40 ∷ 46 ∷ 46 ∷ 46 ∷ 46 ∷ 41 ∷ 41 ∷ 41 ∷ []) (negsuc 1799)
-    ∷ strand (71 ∷ 71 ∷ 71 ∷ 65 ∷ 65 ∷ 65 ∷ 65 ∷ 65 ∷ 65 ∷ 71 ∷ 71 ∷ 71 ∷ 65 ∷ 65 ∷ 65 ∷ 67 ∷ 67 ∷ 67 ∷ 67 ∷ 67 ∷ 67 ∷ [])
-    (20 ∷ 19 ∷ 18 ∷ unpaired ∷ unpaired ∷ unpaired ∷ unpaired ∷ unpaired ∷ unpaired ∷ 17 ∷ 16 ∷ 15 ∷ unpaired ∷ unpaired ∷ unpaired ∷ 11 ∷ 10 ∷ 9 ∷ 2 ∷ 1 ∷ 0 ∷ [])
-    (40 ∷ 40 ∷ 40 ∷ 46 ∷ 46 ∷ 46 ∷ 46 ∷ 46 ∷ 46 ∷ 40 ∷ 40 ∷ 40 ∷ 46 ∷ 46 ∷ 46 ∷ 41 ∷ 41 ∷ 41 ∷ 41 ∷ 41 ∷ 41 ∷ [])
-    (negsuc 3599)
     ∷ []
 
 -- each line computes
-pub kinds : Every table
-unfolding fig.hairpin fig.mismatch fig.bulge fig.internal fig.stack fig.long hairpin mismatch bulge internal stack long sized hairpinOf stackAt bulgeOf slant internalOf manyOf canPair pairIndex isPurine arms first between own single kindBy kind purines chargeBy chargeAt total glyphs brackets
-kinds = (refl, (refl, (refl, (refl, (refl, (refl, (refl, (refl, (refl, (refl, (refl, (refl, (refl, (refl, (refl, (refl, (refl, (refl, (refl, (refl, (refl, (refl, (refl, (refl, (refl, (refl, (refl, tt)))))))))))))))))))))))))))
+pub kinds : Every Says table
+unfolding fig.hairpin fig.mismatch fig.bulge fig.internal fig.stack fig.long hairpin mismatch bulge internal stack long sized hairpinOf stackAt bulgeOf slant internalOf manyOf canPair pairIndex isPurine arms first between own single kindBy kind purines chargeBy chargeAt
+kinds = (refl, (refl, (refl, (refl, (refl, (refl, (refl, (refl, (refl, (refl, (refl, (refl, (refl, (refl, (refl, (refl, (refl, (refl, (refl, (refl, (refl, (refl, (refl, (refl, tt))))))))))))))))))))))))

@@ -5,7 +5,5 @@ pub mod Reached
 pub mod Kept
 pub mod Same
 pub mod Whole
-pub mod Certified
-pub mod Vectors
 pub mod Readiness
 pub mod Tracing

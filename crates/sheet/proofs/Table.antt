@@ -21,8 +21,10 @@ use Rattle.count_rule.specs.Rule.{mayPair, best, paired, split, nussinov}
 use Rattle.count_trace.specs.Choosing.{firstOf, closesOf, splitAt, splitOf, choice}
 use Rattle.count_trace.specs.Trace.{traceOf, tracedOf}
 use Rattle.counting.specs.Calls.{countOf}
+use Rattle.charges.proofs.KindTable.{Every}
 use Rattle.sheet.proofs.Counts.{counted}
-use Rattle.sheet.specs.Lines.{text-accepted, text-refused, Says, table, Every}
+use Rattle.sheet.proofs.Vectors.{seven, nine, ten, twenty-one, charged-so}
+use Rattle.sheet.specs.Lines.{text-accepted, text-refused, Says, table}
 
 accepted : (s : List ℕ) → ((room : ℕ) → length s ≤ room → textDue s room ≡ clear) → Says (text-accepted s)
 accepted s due o o′ (Number n) room p = ap Number (p .1)
@@ -40,7 +42,7 @@ eight =
 nested : List ℕ
 nested = unpaired ∷ 7 ∷ 6 ∷ unpaired ∷ unpaired ∷ unpaired ∷ 2 ∷ 1 ∷ []
 
-pub bench-sheet : Every table
+pub bench-sheet : Every Says table
 unfolding textDue unmatched eight nested reads noBase normal basesDue canPair mayPair span best paired split nussinov tri every firstOf closesOf splitAt splitOf choice traceOf tracedOf countOf glyphs brackets
 bench-sheet = (
   accepted [] (λ room h. rw (le-ltb room 0 h)),
@@ -58,7 +60,7 @@ bench-sheet = (
               counted (71 ∷ 67 ∷ []) (0 ∷ 0 ∷ 0 ∷ []) (unpaired ∷ unpaired ∷ []) 1 0 (46 ∷ 46 ∷ []) (lit< tt) (lit≤ tt) refl refl tt refl refl refl refl,
               (
                 counted (71 ∷ 71 ∷ 71 ∷ 71 ∷ 67 ∷ 67 ∷ 67 ∷ 67 ∷ []) eight nested 3 2 (46 ∷ 40 ∷ 40 ∷ 46 ∷ 46 ∷ 46 ∷ 41 ∷ 41 ∷ []) (lit< tt) (lit≤ tt) refl refl tt refl refl refl refl,
-                tt,
+                (seven, (nine, (ten, (charged-so, (twenty-one, tt))))),
               ),
             ),
           ),
