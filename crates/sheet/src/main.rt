@@ -1,10 +1,14 @@
 // The bench sheet: its lines run through the public calls, and what each comes to written out.
 // The lines that document 01 marks as proved are also the table of specs/Lines.antt, proved in proofs/Table.antt.
 use counting::Counted;
+use counting::Edited;
+use counting::Record;
+use energy::Minimum;
 use libc::STDOUT_FILENO;
 use refusals::Place;
 use refusals::Refusal;
 use structure::Answer;
+ghost use Rattle.ints.specs.Ints.{Small};
 
 fn is(n: usize) {
     io::write_all(STDOUT_FILENO, b" is ");
@@ -36,6 +40,42 @@ fn tell_count(counted: Counted) {
     }
 }
 
+fn tell_edit(edited: Edited) {
+    match edited {
+        Edited::Done(_, m) => is(m),
+        Edited::Refused(refusal, _) => refused(refusal),
+    }
+}
+
+// In thousandths, with its sign.
+fn signed(z: i32)
+    requires { ⌜ Small z ⌝ }
+{
+    if z < 0 {
+        io::write_all(STDOUT_FILENO, b"-");
+    }
+    io::print_decimal(STDOUT_FILENO, ints::magnitude(z) as u64);
+}
+
+fn is_energy(z: i32) {
+    io::write_all(STDOUT_FILENO, b" is ");
+    // Never so after a fold: a test is shorter than the proof of that.
+    if z < -1_000_000_000 {
+        return;
+    }
+    if 1_000_000_000 < z {
+        return;
+    }
+    signed(z);
+}
+
+fn tell_energy(found: Minimum) {
+    match found {
+        Minimum::Energy(z) => is_energy(z),
+        Minimum::Refused(refusal) => refused(refusal),
+    }
+}
+
 fn text(s: &[u8], pairs: &mut [u16]) {
     io::write_all(STDOUT_FILENO, b"text ");
     io::write_all(STDOUT_FILENO, s);
@@ -63,11 +103,11 @@ fn distances() {
 
 // The brackets of the first n positions.
 fn brackets(pairs: &[u16], n: usize) {
-    let mut text = [0u8; 16];
+    let mut text = [0u8; 32];
     if pairs.len() < n {
         return;
     }
-    if 16 < n {
+    if 32 < n {
         return;
     }
     structure::to_dot_bracket(&pairs[..n], &mut text);
@@ -99,15 +139,122 @@ fn strands() {
     count(b"gcGCtAta", 0);
 }
 
+fn energy(seq: &[u8]) {
+    let mut bases = [0u8; 32];
+    let mut paired = [0; 528];
+    let mut any = [0; 528];
+    let mut arms = [0; 528];
+    let mut pairs = [0u16; 32];
+    io::write_all(STDOUT_FILENO, b"energy ");
+    io::write_all(STDOUT_FILENO, seq);
+    tell_energy(energy::zuker_mfe(
+        seq,
+        &mut bases,
+        &mut paired,
+        &mut any,
+        &mut arms,
+        &mut pairs,
+    ));
+    brackets(&pairs, seq.len());
+    io::write_all(STDOUT_FILENO, b"\n");
+}
+
+// The last two have several structures of the least energy: the order of choices decides.
+fn least_energies() {
+    energy(b"GGAAACC");
+    energy(b"GGGAAACCC");
+    energy(b"GGGAAAACCC");
+    energy(b"GGGAAAAAAGGGAAACCCCCC");
+    energy(b"CGGGGCCCGGCC");
+    energy(b"UGGCGGCGCCCGGC");
+}
+
+// The structure that a record leads to.
+fn traced(held: Record, bases: &[u8], cells: &[u16]) {
+    let mut pairs = [0u16; 16];
+    let n = held.length;
+    counting::traceback(held, bases, cells, &mut pairs);
+    brackets(&pairs, n);
+    io::write_all(STDOUT_FILENO, b"\n");
+}
+
+fn add(held: Record, bases: &mut [u8], cells: &mut [u16], byte: u8) {
+    let edited = counting::add(held, bases, cells, byte);
+    tell_edit(edited);
+    if let Edited::Done(after, _) = edited {
+        traced(after, bases, cells);
+    }
+}
+
+fn replace(held: Record, bases: &mut [u8], cells: &mut [u16], position: usize, byte: u8) -> Record {
+    let edited = counting::replace(held, bases, cells, position, byte);
+    tell_edit(edited);
+    match edited {
+        Edited::Done(after, _) => {
+            traced(after, bases, cells);
+            after
+        }
+        Edited::Refused(_, kept) => kept,
+    }
+}
+
+fn edits() {
+    let mut bases = [0u8; 16];
+    let mut cells = [0u16; 136];
+    let mut pairs = [0u16; 16];
+    let folded = counting::nussinov(b"GGGAAACCC", 3, &mut bases, &mut cells, &mut pairs);
+    let Counted::Folded(fresh, _) = folded else {
+        return;
+    };
+    io::write_all(STDOUT_FILENO, b"GGGAAACCC, place 8 becomes A");
+    let held = replace(fresh, &mut bases, &mut cells, 8, b'A');
+    io::write_all(STDOUT_FILENO, b"then C is added");
+    add(held, &mut bases, &mut cells, b'C');
+}
+
 fn fold_limits() {
     let strand = [71u8; 257];
     let mut bases = [0u8; 257];
     let mut cells = [0u16; 33153];
     let mut pairs = [0u16; 257];
     io::write_all(STDOUT_FILENO, b"256 bases");
-    tell_count(counting::nussinov(&strand[..256], 3, &mut bases, &mut cells, &mut pairs));
+    let folded = counting::nussinov(&strand[..256], 3, &mut bases, &mut cells, &mut pairs);
+    tell_count(folded);
     io::write_all(STDOUT_FILENO, b"\n257 bases");
     tell_count(counting::nussinov(&strand, 3, &mut bases, &mut cells, &mut pairs));
+    io::write_all(STDOUT_FILENO, b"\n");
+    if let Counted::Folded(held, _) = folded {
+        io::write_all(STDOUT_FILENO, b"add at 256 bases");
+        tell_edit(counting::add(held, &mut bases, &mut cells, b'G'));
+        io::write_all(STDOUT_FILENO, b"\n");
+    }
+}
+
+fn energy_limits() {
+    let strand = [71u8; 257];
+    let mut bases = [0u8; 257];
+    let mut paired = [0; 33153];
+    let mut any = [0; 33153];
+    let mut arms = [0; 33153];
+    let mut pairs = [0u16; 257];
+    io::write_all(STDOUT_FILENO, b"energy of 256 bases");
+    tell_energy(energy::zuker_mfe(
+        &strand[..256],
+        &mut bases,
+        &mut paired,
+        &mut any,
+        &mut arms,
+        &mut pairs,
+    ));
+    io::write_all(STDOUT_FILENO, b"\nenergy of 257 bases");
+    tell_energy(energy::zuker_mfe(
+        &strand,
+        &mut bases,
+        &mut paired,
+        &mut any,
+        &mut arms,
+        &mut pairs,
+    ));
     io::write_all(STDOUT_FILENO, b"\n");
 }
 
@@ -128,7 +275,10 @@ fn limits() {
 fn main() {
     texts();
     strands();
+    least_energies();
+    edits();
     distances();
     limits();
     fold_limits();
+    energy_limits();
 }
