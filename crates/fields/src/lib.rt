@@ -8,6 +8,13 @@ pub enum Reading {
     Malformed,
 }
 
+// A field's thousandths from 0 up or below 0, or that it is no decimal of three decimals.
+pub enum Signed {
+    Above(usize),
+    Below(usize),
+    Malformed,
+}
+
 // Where the line that starts at `from` ends: past its line feed, or where the list ends.
 pub fn end_of_line(list: &[u8], from: usize) -> usize
     requires { ⌜ from < length (now list) ⌝ }
@@ -142,6 +149,53 @@ fn with_digit(value: usize, byte: u8) -> Reading {
         return Reading::Malformed;
     }
     Reading::Number(10 * value + digit)
+}
+
+// A number of three decimals, with a sign only where it is below 0: `-1.200` is 1200 thousandths below.
+pub fn thousandths(field: &[u8]) -> Signed {
+    if field.len() == 0 {
+        return Signed::Malformed;
+    }
+    if field[0] == b'-' {
+        let size = three_decimals(&field[1..]);
+        let Reading::Number(n) = size else {
+            return Signed::Malformed;
+        };
+        return Signed::Below(n);
+    }
+    let size = three_decimals(field);
+    let Reading::Number(n) = size else {
+        return Signed::Malformed;
+    };
+    Signed::Above(n)
+}
+
+// One digit or more, a point and three digits, as thousandths.
+fn three_decimals(field: &[u8]) -> Reading {
+    let n = field.len();
+    if n < 5 {
+        return Reading::Malformed;
+    }
+    let point = n - 4;
+    if field[point] != b'.' {
+        return Reading::Malformed;
+    }
+    let units = decimal(&field[0..point]);
+    let Reading::Number(whole) = units else {
+        return Reading::Malformed;
+    };
+    let decimals = decimal(&field[point + 1..n]);
+    let Reading::Number(part) = decimals else {
+        return Reading::Malformed;
+    };
+    if 1_000_000_000 < whole {
+        return Reading::Malformed;
+    }
+    // Never so with three digits: a test is shorter than the proof of that.
+    if 999 < part {
+        return Reading::Malformed;
+    }
+    Reading::Number(1000 * whole + part)
 }
 
 pub fn starts_with(text: &[u8], field: &[u8]) -> bool {

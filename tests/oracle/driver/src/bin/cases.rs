@@ -19,6 +19,24 @@ const BENCH_SHEET: [(u64, &str); 10] = [
     (3, "GGGAAACCAC"),
 ];
 
+/// Strands that the original folds into loops of two, three and four inner pairs, which random strands rarely have,
+/// and two with several structures of the least energy.
+const CHOSEN: [(u64, &str); 10] = [
+    (3, "GCGGGCCAAAGGCCGGGGAAACCCACGC"),
+    (3, "CGGGGCCAAAGGCCAGGGGAAACCCCCCG"),
+    (0, "GCCAGUCCAAAGGACACCGAAAACGGGGC"),
+    (3, "GGCCCGAAAACGGACGCGAAACGCGGAGCGAAAGCUCGCC"),
+    (3, "GGGGAGGGAAACCCCCGGCAACGGCGCGAAACGCGACCCC"),
+    (3, "GCCGGGGGAAACCCCAGUCCAAAGGACAGCCGAAAGGCAGGC"),
+    (4, "CGCGAGCGCAAAGCGCGGGAAAACCCGGACAAAGUCCAGACCAAAAGGUCACGCG"),
+    (
+        3,
+        "GGCAGGGGAAACCCCAAGAGCGCAAGCUCACCGGAAAACCGGGUCCAAAGGACGCC",
+    ),
+    (3, "CGGGGCCCGGCC"),
+    (3, "UGGCGGCGCCCGGC"),
+];
+
 /// The gap 3 stands here often because it is the usual one.
 const GAPS: [u64; 17] = [3, 3, 3, 3, 3, 3, 3, 3, 3, 0, 1, 2, 4, 5, 6, 255, u64::MAX];
 
@@ -35,7 +53,7 @@ const SPELLINGS: [Spelling; 8] = [
 
 fn main() -> io::Result<()> {
     let mut out = BufWriter::new(io::stdout().lock());
-    for (gap, seq) in BENCH_SHEET {
+    for (gap, seq) in BENCH_SHEET.into_iter().chain(CHOSEN) {
         writeln!(out, "{gap} {seq}")?;
     }
     let mut random = Random::new(SEED);
