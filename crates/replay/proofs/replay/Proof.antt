@@ -7,11 +7,12 @@ use Rattle.replay.proofs.replay.Statement.{statement}
 use Rattle.replay.proofs.replay.Tie as tie
 
 abbrev Inv-loop : tie.InvT-loop
-Inv-loop list bases₀ cells₀ pairs₀ tally₀ at₀ bases cells pairs tally at =
-    (tally .agreed ≤ tally .lines) × (tally .lines ≤ at) × (at ≤ length list) × (length bases ≡ length bases₀) × (length cells ≡ length cells₀) × (length pairs ≡ length pairs₀)
+Inv-loop list bases₀ cells₀ paired₀ any₀ arms₀ pairs₀ tally₀ at₀ bases cells paired any arms pairs tally at =
+    (tally .counts ≤ tally .lines) × (tally .energies ≤ tally .lines) × (tally .lines ≤ at) × (at ≤ length list) × (length bases ≡ length bases₀) × (length cells ≡ length cells₀)
+    × (length paired ≡ length paired₀) × (length any ≡ length any₀) × (length arms ≡ length arms₀) × (length pairs ≡ length pairs₀)
 
 abbrev μ-loop : tie.MeasureT-loop
-μ-loop list bases₀ cells₀ pairs₀ tally₀ at₀ bases cells pairs tally at = length list - at
+μ-loop list bases₀ cells₀ paired₀ any₀ arms₀ pairs₀ tally₀ at₀ bases cells paired any arms pairs tally at = length list - at
 
 new-requires : tie.Need-new-requires Inv-loop μ-loop
 new-requires c κs = search needs
@@ -22,17 +23,29 @@ loop-holds c = search needs
 end-of-line-requires : tie.Need-end-of-line-requires Inv-loop μ-loop
 end-of-line-requires c κs = search needs
 
-sub-line-agrees : tie.Need-sub-line-agrees Inv-loop μ-loop
-sub-line-agrees c = search needs
+sub-count-fold-agrees : tie.Need-sub-count-fold-agrees Inv-loop μ-loop
+sub-count-fold-agrees c = search needs
 
-part-line-agrees-start : tie.Need-part-line-agrees-start Inv-loop μ-loop
-part-line-agrees-start c = search needs
+part-count-fold-agrees-start : tie.Need-part-count-fold-agrees-start Inv-loop μ-loop
+part-count-fold-agrees-start c = search needs
 
-part-line-agrees-end : tie.Need-part-line-agrees-end Inv-loop μ-loop
-part-line-agrees-end c = search needs
+part-count-fold-agrees-end : tie.Need-part-count-fold-agrees-end Inv-loop μ-loop
+part-count-fold-agrees-end c = search needs
 
-line-agrees-requires : tie.Need-line-agrees-requires Inv-loop μ-loop
-line-agrees-requires c κs = search needs
+count-fold-agrees-requires : tie.Need-count-fold-agrees-requires Inv-loop μ-loop
+count-fold-agrees-requires c κs = search needs
+
+sub-energy-fold-agrees : tie.Need-sub-energy-fold-agrees Inv-loop μ-loop
+sub-energy-fold-agrees c = search needs
+
+part-energy-fold-agrees-start : tie.Need-part-energy-fold-agrees-start Inv-loop μ-loop
+part-energy-fold-agrees-start c = search needs
+
+part-energy-fold-agrees-end : tie.Need-part-energy-fold-agrees-end Inv-loop μ-loop
+part-energy-fold-agrees-end c = search needs
+
+energy-fold-agrees-requires : tie.Need-energy-fold-agrees-requires Inv-loop μ-loop
+energy-fold-agrees-requires c κs = search needs
 
 with-requires : tie.Need-with-requires Inv-loop μ-loop
 with-requires c κs = search needs
@@ -52,6 +65,15 @@ same-length-2 c = search needs
 same-length-3 : tie.Need-same-length-3 Inv-loop μ-loop
 same-length-3 c = search needs
 
+same-length-4 : tie.Need-same-length-4 Inv-loop μ-loop
+same-length-4 c = search needs
+
+same-length-5 : tie.Need-same-length-5 Inv-loop μ-loop
+same-length-5 c = search needs
+
+same-length-6 : tie.Need-same-length-6 Inv-loop μ-loop
+same-length-6 c = search needs
+
 returns : tie.Need-returns Inv-loop μ-loop
 returns c = search needs
 
@@ -64,14 +86,21 @@ replay-spec =
     new-requires
     loop-holds
     end-of-line-requires
-    sub-line-agrees
-    part-line-agrees-start
-    part-line-agrees-end
-    line-agrees-requires
+    sub-count-fold-agrees
+    part-count-fold-agrees-start
+    part-count-fold-agrees-end
+    count-fold-agrees-requires
+    sub-energy-fold-agrees
+    part-energy-fold-agrees-start
+    part-energy-fold-agrees-end
+    energy-fold-agrees-requires
     with-requires
     loop-less
     loop-again
     same-length
     same-length-2
     same-length-3
+    same-length-4
+    same-length-5
+    same-length-6
     returns)
