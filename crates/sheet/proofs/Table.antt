@@ -45,21 +45,21 @@ nested = unpaired ∷ 7 ∷ 6 ∷ unpaired ∷ unpaired ∷ unpaired ∷ 2 ∷ 1
 pub bench-sheet : Every Says table
 unfolding textDue unmatched eight nested reads noBase normal basesDue canPair mayPair span best paired split nussinov tri every firstOf closesOf splitAt splitOf choice traceOf tracedOf countOf glyphs brackets
 bench-sheet = (
-  accepted [] (λ room h. rw (le-ltb room 0 h)),
+  accepted _ (λ room h. rw (le-ltb room 0 h)),
   (
-    denied (41 ∷ 40 ∷ []) 5 0 (λ room. refl),
+    denied _ _ _ (λ room. refl),
     (
-      denied (40 ∷ 46 ∷ 120 ∷ []) 6 2 (λ room. refl),
+      denied _ _ _ (λ room. refl),
       (
-        denied (46 ∷ 40 ∷ 40 ∷ 41 ∷ []) 7 1 (λ room. refl),
+        denied _ _ _ (λ room. refl),
         (
-          counted (65 ∷ []) (0 ∷ []) (unpaired ∷ []) 3 0 (46 ∷ []) (lit< tt) (lit≤ tt) refl refl tt refl refl refl refl,
+          counted _ (0 ∷ []) (unpaired ∷ []) _ _ _ (lit< tt) (lit≤ tt) refl refl tt refl refl refl refl,
           (
-            counted (71 ∷ 67 ∷ []) (0 ∷ 1 ∷ 0 ∷ []) (1 ∷ 0 ∷ []) 0 1 (40 ∷ 41 ∷ []) (lit< tt) (lit≤ tt) refl refl tt refl refl refl refl,
+            counted _ (0 ∷ 1 ∷ 0 ∷ []) (1 ∷ 0 ∷ []) _ _ _ (lit< tt) (lit≤ tt) refl refl tt refl refl refl refl,
             (
-              counted (71 ∷ 67 ∷ []) (0 ∷ 0 ∷ 0 ∷ []) (unpaired ∷ unpaired ∷ []) 1 0 (46 ∷ 46 ∷ []) (lit< tt) (lit≤ tt) refl refl tt refl refl refl refl,
+              counted _ (0 ∷ 0 ∷ 0 ∷ []) (unpaired ∷ unpaired ∷ []) _ _ _ (lit< tt) (lit≤ tt) refl refl tt refl refl refl refl,
               (
-                counted (71 ∷ 71 ∷ 71 ∷ 71 ∷ 67 ∷ 67 ∷ 67 ∷ 67 ∷ []) eight nested 3 2 (46 ∷ 40 ∷ 40 ∷ 46 ∷ 46 ∷ 46 ∷ 41 ∷ 41 ∷ []) (lit< tt) (lit≤ tt) refl refl tt refl refl refl refl,
+                counted _ eight nested _ _ _ (lit< tt) (lit≤ tt) refl refl tt refl refl refl refl,
                 (seven, (nine, (ten, (charged-so, (twenty-one, tt))))),
               ),
             ),
