@@ -91,7 +91,7 @@ pub fn first_barred(bases: &[u8], pairs: &[u16]) -> usize
     requires { ⌜ Sound (now pairs) × (length (now pairs) ≤ length (now bases)) ⌝ }
     ensures { λ r. ⌜ r ≡ firstBarred (now (bases .entry)) (now (pairs .entry)) ⌝ }
 {
-    let mut i: usize = 0;
+    let mut i = 0;
     while i < pairs.len() {
         if bars(bases, pairs, i) {
             return i;
