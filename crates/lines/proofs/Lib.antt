@@ -1,0 +1,4 @@
+-- Laws of the text of answers.
+pub mod Putting
+pub mod Digits
+pub mod Texts

@@ -1,0 +1,2 @@
+-- What the contracts on the text of answers cite.
+pub mod Text
