@@ -56,3 +56,9 @@ put-line {o} {o′} {s} {t} {r} p e h =
     let q : Puts o o′ 0 t r = subst (λ (x : List ℕ). Puts o o′ 0 x r) e p in
     let small : r ≤ length o′ = omega (arith, q .end, put-long q) in
     ((small, sym (length-take-le r o′ small)), put-holds q h)
+
+-- one permitted answer, and one content of the buffer
+pub one-text : {o o′ o″ s : List ℕ} {r t : ℕ} → Holds o o′ s r → Holds o o″ s t → (r ≡ t) × (o′ ≡ o″)
+one-text {o} {o′} {o″} {s} {r} {t} p q =
+    let e = p .end ∙ sym (q .end) in
+    (e, p .text ∙ ap (λ (k : ℕ). s ++ drop k o) e ∙ sym (q .text))
