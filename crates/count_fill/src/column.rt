@@ -1,6 +1,6 @@
 // One column of the triangle: rewritten by the rule in passes over contiguous cells, and tested.
 ghost use mathlib.Core.Path.{_≡_};
-ghost use Prim.Native.Nat.{_+_, _≤_, _<_, max, min};
+ghost use Prim.Native.Nat.{_+_, _≤_, _<_, max};
 ghost use lib.ListN.{length};
 ghost use Rattle.cells.specs.Tri.{tri, place};
 ghost use Rattle.cells.specs.Fill.{at, Fine, FineFrom, Rows};
@@ -14,12 +14,6 @@ fn larger(a: u16, b: u16) -> u16
     ensures { λ r. ⌜ r ≡ max a b ⌝ }
 {
     if a < b { b } else { a }
-}
-
-pub fn smaller(a: usize, b: usize) -> usize
-    ensures { λ r. ⌜ r ≡ min a b ⌝ }
-{
-    if a < b { a } else { b }
 }
 
 // The cell (i, j).
@@ -93,7 +87,7 @@ fn settle(cells: &mut [u16], j: usize, to: usize, from: usize)
     while 0 < r {
         let v = cells[to + r];
         col -= r;
-        raise(cells, col, to, smaller(r, from + 1), v);
+        raise(cells, col, to, cells::smaller(r, from + 1), v);
         r -= 1;
     }
 }

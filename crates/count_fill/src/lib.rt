@@ -19,7 +19,7 @@ pub fn columns(bases: &[u8], cells: &mut [u16], first: usize, top: usize, n: usi
 {
     let mut j = first;
     while j < n {
-        column::rows(bases, cells, j, column::smaller(top, j), gap);
+        column::rows(bases, cells, j, cells::smaller(top, j), gap);
         j += 1;
     }
 }

@@ -1,9 +1,8 @@
 -- Counts of pairs against cells. `can i j` says that i and j may pair. Assumes nothing: these are definitions.
 use mathlib.Core.Path.{_≡_}
-use mathlib.Core.List.{List}
 use Prim.Native.Nat.{ℕ, _+_, _-_, _<_, _≤_}
 use Rattle.cells.specs.Rule.{Cells, span}
-use Rattle.structure.specs.Table.{unpaired, view, opened}
+use Rattle.structure.specs.Table.{opened}
 use Rattle.count_rule.specs.Allowed.{Allowed}
 
 -- what gives a cell its value: i unpaired, i with j, a split after k, or j unpaired
@@ -21,10 +20,6 @@ pub record Ruled (can : ℕ → ℕ → Type 0) (n : ℕ) (c : Cells ℕ) : Type
   pub pair : (i j : ℕ) → i < j → j < n → can i j → span c (i + 1) j + 1 ≤ c i j
   pub cut : (i k j : ℕ) → i < k → k < j → j < n → c i k + c (k + 1) j ≤ c i j
   pub reached : (i j : ℕ) → i < j → j < n → Step can c i j
-
--- every position from lo up to, but not including, hi is unpaired
-abbrev pub Blank : List ℕ → ℕ → ℕ → Type 0
-Blank t lo hi = (k : ℕ) → lo ≤ k → k < hi → view t k ≡ unpaired
 
 -- the structure on the span from lo up to, but not including, hi is allowed, and has as many pairs as the cell says
 pub record Filled (can : ℕ → ℕ → Type 0) (c : Cells ℕ) (p : ℕ → ℕ) (lo hi : ℕ) : Type 0 where

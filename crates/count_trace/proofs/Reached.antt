@@ -13,11 +13,11 @@ use lib.ListN.{length}
 use Rattle.cells.specs.Rule.{Bases, Cells, Right}
 use Rattle.cells.specs.Fill.{at}
 use Rattle.structure.specs.Table.{unpaired, view, opened}
-use Rattle.tables.specs.Writing.{cleared, joined}
+use Rattle.tables.specs.Writing.{cleared, joined, Blank}
 use Rattle.tables.proofs.Written.{cleared-long, cleared-below, cleared-above, joined-long, joined-other, joined-first, joined-last}
 use Rattle.count_rule.specs.Rule.{mayPair, nussinov}
 use Rattle.count_rule.specs.Allowed.{Allowed, May}
-use Rattle.count_rule.specs.Counts.{Step, Ruled, Blank, Filled}
+use Rattle.count_rule.specs.Counts.{Step, Ruled, Filled}
 use Rattle.cells.proofs.Spans.{span-some}
 use Rattle.count_rule.proofs.Ruling.{right-ruled}
 use Rattle.count_rule.proofs.Filling.{filled-none, filled-one, filled-first, filled-both, filled-split, filled-moved}

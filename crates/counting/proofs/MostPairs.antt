@@ -1,13 +1,14 @@
 -- The count of an accepted fold is the greatest, and its structure reaches it: the traceback's table is allowed and has so many pairs,
 -- and the last cell of a right table bounds every allowed structure. Assumes nothing.
 use mathlib.Core.Path.{_≡_, refl, sym, ap, _∙_}
-use mathlib.Core.List.{List, map, _++_}
+use mathlib.Core.List.{List, map}
 use Prim.Native.Nat.{ℕ, _≤_, _<_}
 use native.Mathlib.Omega.{arith}
-use lib.ListN.{length, drop, take, length-map, List·getD-append}
+use lib.ListN.{length, take}
 use lib.Seq.{getD-take, length-take-le}
 use Rattle.refusals.specs.Refusals.{clear}
 use Rattle.bases.specs.Bases.{normal}
+use Rattle.sequences.proofs.Spared.{letters-front}
 use Rattle.structure.specs.Table.{view, pairs}
 use Rattle.structure.specs.Soundness.{tableDue}
 use Rattle.structure.proofs.Folds.{moved}
@@ -42,14 +43,10 @@ may-same : (b b′ : ℕ → ℕ) (gap n : ℕ) → ((k : ℕ) → k < n → b k
 unfolding mayPair
 may-same b b′ gap n e i j h l y = rw (← e i h, ← e j l) y
 
--- the front of memory that was written
-front-at : (w o : List ℕ) (n k : ℕ) → k < length w → view (w ++ drop n o) k ≡ view w k
-front-at w o n k h = List·getD-append w (drop n o) 0 k h
-
 module _ (s : List ℕ) (gap : ℕ) (b b′ t t′ o o′ : List ℕ) (r : Record) (m : ℕ) (f : Folds s gap b b′ t t′ o o′ (Folded r m)) where
   -- the first bases are the letters of the sequence
   pub fold-letters : (k : ℕ) → k < length s → view b′ k ≡ view (map normal s) k
-  fold-letters k h = ap (λ (l : List ℕ). view l k) (f .2 .bases) ∙ front-at (map normal s) b (length s) k (rw (length-map s normal) h)
+  fold-letters k h = ap (λ (l : List ℕ). view l k) (f .2 .bases) ∙ letters-front s b k h
 
   -- the pair table is an allowed structure with as many pairs as the count, and no allowed structure has more
   pub most-pairs : Greatest s gap (take (length s) o′) m

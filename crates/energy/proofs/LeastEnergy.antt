@@ -1,15 +1,15 @@
 -- The energy of an accepted fold is the least, and its structure reaches it: the cells are right for the letters of the sequence, so that the
 -- traceback's table is a candidate of that energy, and no candidate costs less. Assumes nothing.
 use mathlib.Core.Path.{_≡_, refl, sym, ap, subst, _∙_}
-use mathlib.Core.List.{List, map, _++_}
+use mathlib.Core.List.{List, map}
 use Prim.Native.Nat.{ℕ, _≤_, _<_}
 use native.Mathlib.Omega.{arith}
 use lib.IntN.{ℤ}
-use lib.ListN.{length, drop, take, length-map, List·getD-append}
+use lib.ListN.{length, take, length-map}
 use Rattle.refusals.specs.Refusals.{clear}
 use Rattle.bases.specs.Bases.{normal}
 use Rattle.structure.specs.Table.{view}
-use Rattle.sequences.proofs.Spared.{letters-spared}
+use Rattle.sequences.proofs.Spared.{letters-spared, letters-front}
 use Rattle.structure.specs.Soundness.{tableDue}
 use Rattle.structure.proofs.Checking.{clear-table}
 use Rattle.cells.specs.Rule.{Right}
@@ -30,14 +30,10 @@ use Rattle.energy.specs.Calls.{energyAt, Folds}
 use Rattle.energy.specs.Minimal.{Minimal}
 use Rattle.energy.proofs.Accepted.{foldable}
 
--- the front of memory that was written
-front-at : (w o : List ℕ) (n k : ℕ) → k < length w → view (w ++ drop n o) k ≡ view w k
-front-at w o n k h = List·getD-append w (drop n o) 0 k h
-
 module _ (s b b′ : List ℕ) (v w m v′ w′ m′ : List ℤ) (o o′ : List ℕ) (z : ℤ) (f : Folds s b b′ v w m v′ w′ m′ o o′ (Energy z)) where
   -- the first bases are the letters of the sequence
   pub fold-letters : (k : ℕ) → k < length s → view b′ k ≡ view (map normal s) k
-  fold-letters k h = ap (λ (l : List ℕ). view l k) (f .1 .bases) ∙ front-at (map normal s) b (length s) k (rw (length-map s normal) h)
+  fold-letters k h = ap (λ (l : List ℕ). view l k) (f .1 .bases) ∙ letters-front s b k h
 
   -- so the cells are right for them
   pub fold-right : Right energies (view (map normal s)) (at (three v′ w′ m′)) (length s)

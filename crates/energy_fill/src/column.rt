@@ -88,7 +88,7 @@ fn start(
     requires { ⌜ (to ≡ tri j) × (from ≤ j) × (tri (j + 1) ≤ length (now paired)) × (tri (j + 1) ≤ length (now cells)) × Small charge × Smalls (nums (now paired)) to (from + 1) ⌝ }
     ensures { λ _. ⌜ Started (begun charge limit (table (now (paired .entry))) (table (now (cells .entry))) j) (nums (now (cells .entry))) (nums (now (cells .exit))) j (from + 1) ⌝ }
 {
-    let rows = crate::inner::smaller(j, from + 1);
+    let rows = cells::smaller(j, from + 1);
     begin(paired, cells, j, to, rows, charge, limit);
     if from < j {
         return;
@@ -126,7 +126,7 @@ fn take(cells: &mut [i32], j: usize, col: usize, to: usize, from: usize, r: usiz
     requires { ⌜ (0 < r) × (r ≤ j) × (from ≤ j) × (j < longest + 2) × (to ≡ tri j) × (col ≡ tri (r - 1)) × (tri (j + 1) ≤ length (now cells)) × (v ≡ at (nums (now cells)) r j) × Fine InRange (at (nums (now cells))) (j + 1) ⌝ }
     ensures { λ _. ⌜ Taken minℤ link (nums (now (cells .entry))) (nums (now (cells .entry))) (nums (now (cells .exit))) j from (r - 1) ⌝ }
 {
-    lower(cells, col, to, crate::inner::smaller(r - 1, from + 1), v);
+    lower(cells, col, to, cells::smaller(r - 1, from + 1), v);
     if from + 1 < r {
         return;
     }

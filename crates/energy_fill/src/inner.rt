@@ -1,7 +1,7 @@
 // The search for the one inner pair of a loop: the stack and the two bulges of one base by their own figures, all others by runs over contiguous cells.
 ghost use mathlib.Core.Path.{_≡_};
 ghost use mathlib.Core.Bool.{true};
-ghost use Prim.Native.Nat.{ℕ, suc, _+_, _-_, _≤_, _<_, min};
+ghost use Prim.Native.Nat.{ℕ, suc, _+_, _-_, _≤_, _<_};
 ghost use lib.ListN.{length};
 ghost use Rattle.structure.specs.Table.{view};
 ghost use Rattle.ints.specs.Ints.{minFrom};
@@ -13,12 +13,6 @@ ghost use Rattle.charges.specs.Loops.{mayClose};
 ghost use Rattle.energy_rule.specs.Rule.{innerAt, interior};
 ghost use Rattle.energy_rule.specs.Memory.{nums, table};
 ghost use Rattle.energy_fill.specs.Search.{InRange, Smalls, Charge, charged, near, Before};
-
-pub fn smaller(a: usize, b: usize) -> usize
-    ensures { λ r. ⌜ r ≡ min a b ⌝ }
-{
-    if a < b { a } else { b }
-}
 
 // By how much a is above b.
 fn above(a: usize, b: usize) -> usize
@@ -49,13 +43,13 @@ fn near(paired: &[i32], sides: &[i32], i: usize, j: usize) -> i32
     ensures { λ r. ⌜ r ≡ near (nums (now (paired .entry))) (nums (now (sides .entry))) i j ⌝ }
 {
     let low = i + 2 + charges::SMALLEST_HAIRPIN;
-    let count = smaller(charges::LONGEST_SIDE + 1, above(j, low));
+    let count = cells::smaller(charges::LONGEST_SIDE + 1, above(j, low));
     let mut best = ints::MARK;
     let mut r = 0;
     let mut q = j - 1;
     let mut col = cells::place(i + 1, q);
     while r < count {
-        let hi = smaller(charges::LONGEST_SIDE + 1, q + 1 - low);
+        let hi = cells::smaller(charges::LONGEST_SIDE + 1, q + 1 - low);
         let x = run(
             paired,
             sides,

@@ -29,7 +29,7 @@ pub fn columns(
 {
     let mut j = first;
     while j < n {
-        let from = inner::smaller(top, j);
+        let from = cells::smaller(top, j);
         column::rows(bases, sides, paired, any, arms, j, from);
         j += 1;
     }

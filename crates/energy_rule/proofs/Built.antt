@@ -12,13 +12,13 @@ use lib.ListN.{length, set, length-set}
 use Rattle.ints.specs.Ints.{mark}
 use Rattle.ints.proofs.Ints.{ints, sum, diff}
 use Rattle.structure.specs.Table.{unpaired, view}
-use Rattle.tables.specs.Writing.{joined}
+use Rattle.tables.specs.Writing.{joined, Blank}
 use Rattle.cells.specs.Rule.{Bases}
 use Rattle.charges.specs.Figures.{arm}
 use Rattle.charges.specs.Loops.{mayClose, armsIn, total}
 use Rattle.energy_rule.specs.Rule.{Table}
 use Rattle.energy_rule.specs.Meaning.{energyIn, armedIn}
-use Rattle.energy_rule.specs.Filled.{Blank, AnyFilled, ArmsFilled, PairFilled}
+use Rattle.energy_rule.specs.Filled.{AnyFilled, ArmsFilled, PairFilled}
 use Rattle.energy_rule.proofs.Parts.{may-far}
 use Rattle.energy_rule.proofs.Laws.{Ruled, real-may, v-step, hairpins, inners, branches, m-step, helix, m-skip, m-last, m-split, w-step, bare, pairs, w-skip, w-last, w-split}
 use Rattle.energy_rule.proofs.Optimal.{any-least, arms-least, pair-least}

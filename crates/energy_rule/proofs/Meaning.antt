@@ -7,6 +7,7 @@ use native.Mathlib.Omega.{arith}
 use lib.IntN.{ℤ}
 use lib.Signed.{_≤ℤ_, _<ℤ_}
 use lib.ListN.{replicate, length-replicate, getD-replicate}
+use Rattle.tables.specs.Writing.{Blank}
 use Rattle.ints.specs.Ints.{mark}
 use Rattle.ints.proofs.Ints.{ints}
 use Rattle.ints.proofs.Minima.{less}
@@ -15,7 +16,6 @@ use Rattle.cells.specs.Rule.{Bases, Cells, Right}
 use Rattle.cells.proofs.Fills.{right-fine}
 use Rattle.energy_rule.specs.Rule.{Cell, energies, pairedOf, anyOf, armsOf}
 use Rattle.energy_rule.specs.Bounds.{Ranged}
-use Rattle.energy_rule.specs.Filled.{Blank}
 use Rattle.energy_rule.specs.Meaning.{Meant}
 use Rattle.energy_rule.proofs.Ruling.{energies-keeps}
 use Rattle.energy_rule.proofs.Laws.{right-ruled}

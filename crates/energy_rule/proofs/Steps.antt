@@ -12,7 +12,7 @@ use lib.ListN.{length, set, length-set}
 use lib.Seq.{getD-set-same, getD-set-other}
 use Rattle.ints.proofs.Ints.{ints, sum}
 use Rattle.structure.specs.Table.{unpaired, view}
-use Rattle.tables.specs.Writing.{joined}
+use Rattle.tables.specs.Writing.{joined, Blank}
 use Rattle.structure.proofs.Folds as folds
 use Rattle.cells.specs.Rule.{Bases}
 use Rattle.charges.specs.Figures.{arm, longestSide}
@@ -21,7 +21,7 @@ use Rattle.charges.proofs.Charges.{many-is}
 use Rattle.charges.proofs.Walk.{shut-none, shut-low, opens-up, arms-none, arms-free, arms-pair, arms-join, first-here, total-free, total-open, bare}
 use Rattle.charges.proofs.Charged.{none, inner-most, arms-most}
 use Rattle.energy_rule.specs.Rule.{closingCharge, armCharge}
-use Rattle.energy_rule.specs.Filled.{Blank, Placed, AnyFilled, ArmsFilled, PairFilled}
+use Rattle.energy_rule.specs.Filled.{Placed, AnyFilled, ArmsFilled, PairFilled}
 use Rattle.energy_rule.proofs.Moved.{armsIn-moved, total-moved, candidate-moved}
 
 -- what lies inside a pair is as blank as before it was joined

@@ -5,14 +5,10 @@ use Prim.Native.Nat.{ℕ, suc, _*_, _<_, _≤_}
 use lib.IntN.{ℤ, pos, _+ℤ_}
 use lib.ListN.{length}
 use lib.Signed.{_≤ℤ_}
-use Rattle.structure.specs.Table.{unpaired, view}
+use Rattle.structure.specs.Table.{view}
 use Rattle.cells.specs.Rule.{Bases}
 use Rattle.charges.specs.Figures.{arm}
 use Rattle.charges.specs.Loops.{Candidate, armsIn, total}
-
--- every position from lo up to, but not including, hi is unpaired
-abbrev pub Blank : List ℕ → ℕ → ℕ → Type 0
-Blank t lo hi = (k : ℕ) → lo ≤ k → k < hi → view t k ≡ unpaired
 
 -- a candidate was written into the span, and nothing else
 pub record Placed (b : Bases) (t t′ : List ℕ) (lo hi : ℕ) : Type 0 where

@@ -18,7 +18,7 @@ use Rattle.ints.proofs.Minima.{add-some, add-real}
 use Rattle.cells.specs.Rule.{Bases, Right}
 use Rattle.cells.specs.Fill.{at}
 use Rattle.structure.specs.Table.{unpaired, view}
-use Rattle.tables.specs.Writing.{cleared, joined}
+use Rattle.tables.specs.Writing.{cleared, joined, Blank}
 use Rattle.tables.proofs.Written.{cleared-long, cleared-below, joined-long}
 use Rattle.charges.specs.Figures.{longestSide}
 use Rattle.charges.specs.Loops.{Candidate, mayClose, own, hairpinAt}
@@ -27,7 +27,7 @@ use Rattle.charges.proofs.Charged.{own-in}
 use Rattle.energy_rule.specs.Rule.{Table, closingCharge, armCharge, innerAt, lowest, energies}
 use Rattle.energy_rule.specs.Meaning.{energyIn}
 use Rattle.energy_rule.specs.Memory.{table, three}
-use Rattle.energy_rule.specs.Filled.{Blank, AnyFilled, ArmsFilled, PairFilled}
+use Rattle.energy_rule.specs.Filled.{AnyFilled, ArmsFilled, PairFilled}
 use Rattle.energy_rule.proofs.Parts.{lowest-is, may-far, Cut, Inner, inner-none, inner-some}
 use Rattle.energy_rule.proofs.Laws.{Ruled, right-ruled, real-may, v-real, v-step, hairpins, inners, branches, m-step, helix, m-skip, m-last, m-split, w-most, w-step, bare, pairs, w-skip, w-last, w-split}
 use Rattle.energy_rule.proofs.Steps.{any-bare, any-skip, any-last, any-pair, any-split, arms-skip, arms-last, arms-helix, arms-split, blank-joined, pair-hairpin, pair-inner, pair-arms}

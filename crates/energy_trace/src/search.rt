@@ -1,9 +1,10 @@
 // Searches for the first candidate that reaches the value of the cell (i, j).
 use crate::reach;
 use charges::LONGEST_SIDE;
+use charges::SMALLEST_HAIRPIN;
 ghost use mathlib.Core.Path.{_≡_};
 ghost use mathlib.Core.Bool.{true};
-ghost use Prim.Native.Nat.{suc, _+_, _-_, _≤_, _<_, min};
+ghost use Prim.Native.Nat.{suc, _+_, _-_, _≤_, _<_};
 ghost use lib.ListN.{length};
 ghost use Rattle.structure.specs.Table.{view};
 ghost use Rattle.charges.specs.Figures.{longest, longestSide};
@@ -14,7 +15,7 @@ ghost use Rattle.energy_trace.specs.Choosing.{splitting, innerRow, insid
 ghost use Rattle.energy_trace.specs.Trace.{Ready};
 
 // How far apart the places of an inner pair are at least: a hairpin has room between them.
-const NEAREST: usize = 4;
+const NEAREST: usize = SMALLEST_HAIRPIN + 1;
 
 // What a search along places finds.
 pub enum Found {
@@ -48,7 +49,7 @@ pub fn inside(bases: &[u8], paired: &[i32], i: usize, j: usize) -> Within
     requires { ⌜ (i < j) × (j < length (now bases)) × (mayClose (view (now bases)) i j ≡ true) × Ready (now paired) j ⌝ }
     ensures { λ r. ⌜ r ≡ inside (view (now (bases .entry))) (table (now (paired .entry))) i j ⌝ }
 {
-    let end = i + 1 + smaller(LONGEST_SIDE + 1, j - (i + 1));
+    let end = i + 1 + cells::smaller(LONGEST_SIDE + 1, j - (i + 1));
     let mut x = i + 1;
     while x < end {
         if let Found::At(y) = inner_row(bases, paired, i, j, x) {
@@ -86,10 +87,4 @@ fn lowest(j: usize, x: usize) -> usize
     } else {
         j - (LONGEST_SIDE + 1)
     }
-}
-
-fn smaller(a: usize, b: usize) -> usize
-    ensures { λ r. ⌜ r ≡ min a b ⌝ }
-{
-    if a < b { a } else { b }
 }

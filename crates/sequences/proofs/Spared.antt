@@ -1,9 +1,9 @@
--- What is left of lent memory: its length, and all that stands from a place on.
+-- Lent memory after the letters of a sequence were written to its front: they stand there, and its length and all from a place on is left.
 use mathlib.Core.Path.{_≡_, sym, ap, _∙_}
 use mathlib.Core.List.{List, map, _++_}
-use Prim.Native.Nat.{ℕ, _+_, _-_, _≤_}
+use Prim.Native.Nat.{ℕ, _+_, _-_, _≤_, _<_}
 use native.Mathlib.Omega.{arith}
-use lib.ListN.{length, drop, length-map}
+use lib.ListN.{length, drop, length-map, List·getD-append}
 use lib.Seq.{getD-append-add, getD-drop, length-front, length-take-le}
 use Rattle.bases.specs.Bases.{normal}
 use Rattle.structure.specs.Table.{view}
@@ -28,3 +28,7 @@ letters-spared s b room =
           let back : n + (k - n) ≡ k = omega arith in
           ap (view (map normal s ++ drop n b)) at ∙ getD-append-add (map normal s) (drop n b) (k - n) 0 ∙ getD-drop n b (k - n) 0 ∙ ap (view b) back;
     }
+
+-- and are what is read there
+pub letters-front : (s b : List ℕ) (k : ℕ) → k < length s → view (map normal s ++ drop (length s) b) k ≡ view (map normal s) k
+letters-front s b k h = List·getD-append (map normal s) (drop (length s) b) 0 k (rw (length-map s normal) h)
