@@ -60,7 +60,7 @@ normal-zero = refl
 
 -- ---- exactly ten bytes are bases
 
--- document 01's list: a byte, and the letter that is kept of it
+-- the rules' list: a byte, and the letter that is kept of it
 pub data Letter : ℕ → ℕ → Type 0 where
   upper-A : Letter 65 65
   lower-a : Letter 97 65
@@ -104,7 +104,7 @@ only-ten x =
 
 -- ---- exactly six pairs
 
--- document 01's list: a pair's number, and its two letters
+-- the rules' list: a pair's number, and its two letters
 pub data Pair : ℕ → ℕ → ℕ → Type 0 where
   AU : Pair 0 65 85
   UA : Pair 1 85 65

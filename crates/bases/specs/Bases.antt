@@ -14,7 +14,7 @@ letterOf C = 67
 letterOf G = 71
 letterOf U = 85
 
--- what document 01 says of a byte: the letter that is kept of it, or the number of the refusal
+-- what the rules say of a byte: the letter that is kept of it, or the number of the refusal
 pub data Spelt : Type 0 where
   kept : ℕ → Spelt
   refused : ℕ → Spelt

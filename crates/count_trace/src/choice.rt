@@ -1,4 +1,4 @@
-// What the traceback takes at a span: the first, in document 01's order, of what reaches the cell's value.
+// What the traceback takes at a span: the first, in the rules' order, of what reaches the cell's value.
 ghost use mathlib.Core.Path.{_≡_};
 ghost use Prim.Native.Nat.{_+_, _≤_, _<_};
 ghost use lib.ListN.{length};

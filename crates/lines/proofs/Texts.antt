@@ -61,7 +61,7 @@ pub refused-is :
 unfolding refusedText
 refused-is q n p e f = rw (e, f)
 
--- document 01's lines: `pairs 3`, `energy -1.200`, `refused 2 at 4`; and `energy 0.000`
+-- the lines of the rules: `pairs 3`, `energy -1.200`, `refused 2 at 4`; and `energy 0.000`
 pub pairs-of-3 : pairsText 3 ≡ 112 ∷ 97 ∷ 105 ∷ 114 ∷ 115 ∷ 32 ∷ 51 ∷ []
 unfolding pairsText decimal shown
 pairs-of-3 = refl

@@ -69,7 +69,7 @@ fn tell(size: usize, term: usize) {
     io::print_decimal(STDOUT_FILENO, term as u64);
 }
 
-// The sizes whose terms document 01 names.
+// The sizes whose terms the rules name.
 fn named(size: usize) -> bool {
     match size {
         31 => true,

@@ -1,4 +1,4 @@
--- Document 01's table of refusals, rows of checks, and the limits. Assumes nothing: these are definitions.
+-- The rules' table of refusals, rows of checks, and the limits. Assumes nothing: these are definitions.
 use mathlib.Core.Bool.{Bool, true, false, _||_}
 use Prim.Native.Nat.{ℕ, zero, suc}
 use Rattle.refusals.specs.declared.Refusal.{Refusal}

@@ -1,5 +1,5 @@
 // The bench sheet: its lines run through the public calls, and what each comes to written out.
-// The lines that document 01 marks as proved are also the table of specs/Lines.antt, proved in proofs/Table.antt.
+// The lines that are marked as proved are also the table of specs/Lines.antt, proved in proofs/Table.antt.
 use counting::Counted;
 use counting::Edited;
 use counting::Record;
