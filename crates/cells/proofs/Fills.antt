@@ -1,7 +1,7 @@
 -- The steps of filling a triangle by a local rule, column after column, each from its last row up to row 0.
 -- Assumes nothing.
 use mathlib.Core.Path.{_≡_, refl, _∙_, sym, subst}
-use mathlib.Core.Logic.{_⊎_, ⊎-elim}
+use mathlib.Core.Logic.{⊎-elim}
 use mathlib.Core.List.{List}
 use Prim.Native.Nat.{ℕ, zero, suc, _+_, _-_, _≤_, _<_, min}
 use native.Mathlib.Omega.{arith}
@@ -9,7 +9,7 @@ use lib.ListN.{length, getD, set}
 use lib.Seq.{getD-set-same, getD-set-other}
 use Rattle.cells.specs.Tri.{tri, place}
 use Rattle.cells.specs.Rule.{Bases, Cells, Rule, SameInside, Local, Right}
-use Rattle.cells.specs.Fill.{at, trio, FineInside, FineFrom, Fine, Keeps, Rows, Columns, FineElse}
+use Rattle.cells.specs.Fill.{at, FineFrom, Fine, Keeps, Rows, Columns, FineElse}
 use Rattle.cells.proofs.Places.{less-or, three, tri-mono, tri-below, place-column, place-row, cell-at}
 use Rattle.cells.proofs.Rules.{unique, untouched, replaced, added}
 
@@ -22,26 +22,10 @@ pub record Put {A : Type 0} (g g′ : ℕ → A) (p : ℕ) (v : A) : Type 0 wher
 pub put-set : {A : Type 0} (d : A) (t : List A) (p : ℕ) (v : A) → p < length t → Put (λ k. getD t k d) (λ k. getD (set t p v) k d) p v
 put-set d t p v h = record { here = getD-set-same t p v d h; off = λ k n. getD-set-other t p k v d n }
 
--- a store to three lists at one place
-pub put-trio :
-    {A : Type 0} (d : A) (t u w : List A) (p : ℕ) (x y z : A) → p < length t → p < length u → p < length w →
-    Put (trio d t u w) (trio d (set t p x) (set u p y) (set w p z)) p (x, y, z)
-put-trio d t u w p x y z h l m =
-    record {
-      here = λ i. (getD-set-same t p x d h i, getD-set-same u p y d l i, getD-set-same w p z d m i);
-      off = λ k n i. (getD-set-other t p k x d n i, getD-set-other u p k y d n i, getD-set-other w p k z d n i);
-    }
-
--- what each edit's columns ask of the other cells: nothing for a fold, a believable table for the others
+-- a fold asks nothing of the other cells: it writes all
 module _ {A : Type 0} (Ok : ℕ → ℕ → A → Type 0) (c : Cells A) (n : ℕ) where
   pub else-filled : FineElse Ok c 0 n n
   else-filled i j h l x = absurd (omega (arith, x (omega arith)))
-
-  pub else-replaced : (p : ℕ) → Fine Ok c n → FineElse Ok c p p n
-  else-replaced p f i j h l x = f i j h l
-
-  pub else-added : Fine Ok c n → FineElse Ok c n n (n + 1)
-  else-added f i j h l x = f i j h (⊎-elim (λ y. y) (λ y. absurd (omega (arith, x y))) (less-or j n))
 
 module _ {A : Type 0} (rule : Rule A) (loc : Local rule) (Ok : Bases → ℕ → ℕ → A → Type 0) (keeps : Keeps rule Ok) (b : Bases) where
   pub rows-none : (g : ℕ → A) (j from i : ℕ) → from < i → FineFrom (Ok b) (at g) i j → Rows rule Ok b g g j from i
@@ -92,11 +76,6 @@ module _ {A : Type 0} (rule : Rule A) (loc : Local rule) (Ok : Bases → ℕ →
       Rows rule Ok b g₀ g j from m → Rows rule Ok b g₀ g′ j from i
   rows-next g₀ g g′ j from m i p v n h l q put e r =
       rows-more g₀ g g′ j from i v h l (subst (λ (x : ℕ). Put g g′ x v) q put) e (subst (λ (x : ℕ). Rows rule Ok b g₀ g j from x) n r)
-
-  -- what the rule's cell asks, of rows from `m` on
-  pub rows-inside :
-      (g₀ g : ℕ → A) (j from m i : ℕ) → m ≡ i + 1 → Rows rule Ok b g₀ g j from m → FineInside (Ok b) (at g) i j
-  rows-inside g₀ g j from m i n r k l p q u w = r .fine k l q u (λ z. omega arith)
 
   pub columns-none : (g : ℕ → A) (first top n : ℕ) → first ≤ n → FineElse (Ok b) (at g) first top n → Columns rule Ok b g g first top first
   columns-none g first top n h f =

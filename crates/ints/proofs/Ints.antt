@@ -1,11 +1,10 @@
 -- Signed numbers by two naturals: z is `up z − dn z`. A linear fact on signed numbers is then a linear fact on naturals, and `omega` proves it.
 -- The set `ints` has the rules: `omega ints` reads and proves `a ≤ℤ b`, `a <ℤ b`, `a ≡ b` and `SFits w32 z`. A sum that occurs is told to it by `sum a b`, a signed test by `lt-yes`, `lt-no`, ..
 use mathlib.Core.Path.{_≡_, refl, sym, ap, subst, _∙_}
-use mathlib.Core.Logic.{_≢_}
 use mathlib.Core.Bool.{Bool, true, false, not, cond}
 use Prim.Native.Nat.{ℕ, zero, suc, _+_, _-_, _^_, _<_, _≤_}
 use native.Mathlib.Omega.{arith}
-use lib.Dec.{T, ltb, leb, leb→le, le→leb, ltb→lt, lt→ltb, nltb→le, nleb→lt}
+use lib.Dec.{T, ltb, leb→le, le→leb, ltb→lt, lt→ltb, nltb→le, nleb→lt}
 use lib.IntN.{ℤ, pos, negsuc, subℕ, negℤ, natAbs, _+ℤ_, _-ℤ_}
 use lib.Signed.{mag, ltZ, leZ, _≤ℤ_, _<ℤ_, nonNeg, yes-nonNeg}
 use mir.Syntax.{w32}
@@ -162,17 +161,6 @@ nle (negsuc a) (negsuc b) t = omega (arith, nleb→lt b a t)
 
 pub le-no : (a b : ℤ) → leZ a b ≡ false → up b + dn a < up a + dn b
 le-no a b e = nle a b (subst (λ (t : Bool). T (not t)) (sym e) tt)
-
--- a test `a == b` compares bits
-pub eq-yes : (a b : ℤ) → mag a < 2 ^ 31 → mag b < 2 ^ 31 → ofZ w32 a ≡ ofZ w32 b → a ≡ b
-eq-yes a b ha hb e = sym (plain a ha) ∙ ap (λ (n : ℕ). toZ w32 n) e ∙ plain b hb
-
-pub eq-no : (a b : ℤ) → (ofZ w32 a ≡ ofZ w32 b → ⊥) → a ≡ b → ⊥
-eq-no a b f e = f (ap (λ (z : ℤ). ofZ w32 z) e)
-
--- and for `omega`
-pub ne-up : (a b : ℤ) → (a ≡ b → ⊥) → up a + dn b ≢ up b + dn a
-ne-up a b f e = f (up-eq e)
 
 -- `omega ints`
 pub ruleset ints = (arith, le-up, up-le, lt-up, up-lt, eq-up, up-eq, fits-back, up-fits)

@@ -52,12 +52,6 @@ proper b k e = record {
   closing = λ q. by-cases (ℕ-discrete (depth b k) 0) (λ z. absurd (one-of (Unopened k) e (offends-unopened (b k) (depth b k) k q z))) (λ n. omega arith);
 }
 
-proper-clear : (b : ℕ → ℕ) (k : ℕ) → Proper b k → offence b k ≡ clear
-proper-clear b k p = by-cases (ℕ-discrete (b k) 40) (offends-open (b k) (depth b k) k)
-    (λ n. by-cases (ℕ-discrete (b k) 41)
-    (λ e. let o = p .closing e in offends-close (b k) (depth b k) k e (omega arith))
-    (λ m. offends-dot (b k) (depth b k) k (p .bracket n m)))
-
 -- what a byte comes to, by how many a loop has counted
 pub judged : (b : ℕ → ℕ) (d i : ℕ) (due : Due) → d ≡ depth b i → due ≡ offends (b i) d i → offence b i ≡ due
 judged b d i due e o = ap (λ (x : ℕ). offends (b i) x i) (sym e) ∙ sym o
@@ -65,9 +59,6 @@ judged b d i due e o = ap (λ (x : ℕ). offends (b i) x i) (sym e) ∙ sym o
 -- nothing is found at the places below n exactly where no byte there offends
 pub clean : (b : ℕ → ℕ) (n : ℕ) → each (offence b) n ≡ clear → Clean b n
 clean b n e k h = proper b k (each-clear (offence b) n e k h)
-
-pub clean-row : (b : ℕ → ℕ) (n : ℕ) → Clean b n → each (offence b) n ≡ clear
-clean-row b n c = clear-each (offence b) n (λ k h. proper-clear b k (c k h))
 
 -- ---- which `(` is left open
 
