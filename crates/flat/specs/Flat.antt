@@ -10,10 +10,10 @@ use Rattle.refusals.specs.declared.Place.the-variants.{Nowhere, At}
 use Rattle.bases.specs.Bases.{Spelt, kept, refused}
 use Rattle.structure.specs.declared.Answer.{Answer}
 use Rattle.structure.specs.declared.Answer.the-variants.{Number, Refused}
-use Rattle.structure.specs.declared.Pairing.{Pairing}
-use Rattle.structure.specs.declared.Pairing.the-variants.{Paired, Refused as PairingRefused}
-use Rattle.structure.specs.declared.Mate.{Mate}
-use Rattle.structure.specs.declared.Mate.the-variants.{With, Nobody, Refused as MateRefused}
+use Rattle.queries.specs.declared.Pairing.{Pairing}
+use Rattle.queries.specs.declared.Pairing.the-variants.{Paired, Refused as PairingRefused}
+use Rattle.queries.specs.declared.Mate.{Mate}
+use Rattle.queries.specs.declared.Mate.the-variants.{With, Nobody, Refused as MateRefused}
 use Rattle.counting.specs.declared.Counted.{Counted}
 use Rattle.counting.specs.declared.Counted.the-variants.{Folded, Refused as CountedRefused}
 use Rattle.counting.specs.declared.Edited.{Edited}

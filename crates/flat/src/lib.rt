@@ -3,11 +3,11 @@ use counting::Counted;
 use counting::Edited;
 use counting::Traced;
 use energy::Minimum;
+use queries::Mate;
+use queries::Pairing;
 use refusals::Place;
 use refusals::Refusal;
 use structure::Answer;
-use structure::Mate;
-use structure::Pairing;
 ghost use mathlib.Core.Path.{_≡_};
 ghost use Rattle.flat.specs.Flat.{flatPlace, flatRefusal, flatAnswer, flatPairing, flatPartner, flatCounted, flatEdited, flatTraced, flatLeast};
 

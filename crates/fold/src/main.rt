@@ -9,8 +9,8 @@ use refusals::Refusal;
 ghost use Prim.Native.Nat.{_≤_};
 ghost use lib.ListN.{length};
 ghost use Rattle.io.specs.Counts.{Counts};
-ghost use Rattle.ints.specs.Ints.{Small};
 ghost use Rattle.refusals.specs.Refusals.{programLimit};
+ghost use Rattle.ints.specs.Ints.{Small};
 
 // The two places of a pair are more than this apart.
 const GAP: usize = 3;
@@ -38,7 +38,7 @@ fn brackets(pairs: &[u16])
 {
     let n = pairs.len();
     let mut text = [0u8; PROGRAM_LIMIT];
-    structure::to_dot_bracket(pairs, &mut text);
+    brackets::to_dot_bracket(pairs, &mut text);
     write(b" ");
     write(&text[..n]);
     write(b"\n");

@@ -8,8 +8,8 @@ ghost use mathlib.Core.Path.{_≡_};
 ghost use mathlib.Core.Bool.{true};
 ghost use Prim.Native.Nat.{_<_};
 ghost use lib.ListN.{length};
-ghost use Rattle.ints.specs.Ints.{Small};
 ghost use Rattle.structure.specs.Table.{view};
+ghost use Rattle.ints.specs.Ints.{Small};
 ghost use Rattle.charges.specs.Loops.{opening, Chargeable};
 
 fn write(text: &[u8]) {
@@ -101,7 +101,7 @@ fn weigh(bases: &[u8], pairs: &[u16]) {
         write(b"unequal");
         return;
     }
-    let counted = structure::num_pairs(pairs);
+    let counted = queries::num_pairs(pairs);
     let Answer::Number(_) = counted else {
         write(b"unsound");
         return;
@@ -117,7 +117,7 @@ fn weigh(bases: &[u8], pairs: &[u16]) {
 
 fn strand(bases: &[u8], text: &[u8]) {
     let mut pairs = [0u16; FOLD_LIMIT];
-    let parsed = structure::from_dot_bracket(text, &mut pairs);
+    let parsed = brackets::from_dot_bracket(text, &mut pairs);
     let Answer::Number(n) = parsed else {
         write(b"no structure");
         return;

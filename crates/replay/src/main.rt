@@ -25,7 +25,7 @@ fn count_agrees(count: usize, field: &[u8]) -> bool {
 // Is a pair table's text the BRACKETS that a line has for it?
 fn brackets_agree(table: &[u16], field: &[u8]) -> bool {
     let mut text = [0u8; FOLD_LIMIT];
-    let answer = structure::to_dot_bracket(table, &mut text);
+    let answer = brackets::to_dot_bracket(table, &mut text);
     let Answer::Number(n) = answer else {
         return false;
     };

@@ -10,8 +10,9 @@ use lib.Seq.{ext-getD, getD-take, length-take-le}
 use Rattle.refusals.specs.Refusals.{clear, foldLimit}
 use Rattle.refusals.proofs.Laws.{one-of}
 use Rattle.bases.specs.Bases.{normal}
+use Rattle.structure.specs.Table.{view}
+use Rattle.brackets.specs.Brackets.{brackets}
 use Rattle.sequences.specs.Sequences.{basesDue}
-use Rattle.structure.specs.Table.{view, brackets}
 use Rattle.cells.specs.Fill.{at}
 use Rattle.cells.specs.Solve.{obeys}
 use Rattle.cells.proofs.Rules.{unique}

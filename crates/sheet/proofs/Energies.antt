@@ -12,13 +12,14 @@ use lib.Seq.{ext-getD, getD-take, length-take-le}
 use Rattle.refusals.specs.Refusals.{clear, foldLimit}
 use Rattle.refusals.proofs.Laws.{one-of}
 use Rattle.bases.specs.Bases.{normal}
+use Rattle.structure.specs.Table.{view}
+use Rattle.brackets.specs.Brackets.{brackets}
 use Rattle.sequences.specs.Sequences.{basesDue}
-use Rattle.ints.proofs.Ints.{either}
 use Rattle.cells.specs.Fill.{at}
 use Rattle.cells.specs.Solve.{obeys}
 use Rattle.cells.proofs.Rules.{unique}
 use Rattle.cells.proofs.Solves.{obeys-right}
-use Rattle.structure.specs.Table.{view, brackets}
+use Rattle.ints.proofs.Ints.{either}
 use Rattle.energy_rule.specs.Rule.{Cell, energies}
 use Rattle.energy_rule.specs.Memory.{three}
 use Rattle.energy_rule.proofs.Ruling.{triple, energies-local}

@@ -9,11 +9,12 @@ use lib.Dec.{lit<, lit≤}
 use Rattle.refusals.specs.Refusals.{clear, refuse, dueOf}
 use Rattle.refusals.specs.declared.Place.the-variants.{At}
 use Rattle.refusals.proofs.Laws.{one-of}
-use Rattle.structure.specs.declared.Answer.the-variants.{Number, Refused}
 use Rattle.bases.specs.Bases.{reads, noBase, normal, canPair}
+use Rattle.structure.specs.declared.Answer.the-variants.{Number, Refused}
+use Rattle.structure.specs.Table.{unpaired}
+use Rattle.brackets.specs.Brackets.{glyphs, brackets}
+use Rattle.brackets.specs.Text.{textDue, unmatched}
 use Rattle.sequences.specs.Sequences.{basesDue}
-use Rattle.structure.specs.Table.{unpaired, glyphs, brackets}
-use Rattle.structure.specs.Text.{textDue, unmatched}
 use Rattle.cells.specs.Tri.{tri}
 use Rattle.cells.specs.Rule.{span}
 use Rattle.cells.specs.Solve.{every}
@@ -22,9 +23,9 @@ use Rattle.count_trace.specs.Choosing.{firstOf, closesOf, splitAt, splitOf, cho
 use Rattle.count_trace.specs.Trace.{traceOf, tracedOf}
 use Rattle.counting.specs.Calls.{countOf}
 use Rattle.charges.proofs.KindTable.{Every}
+use Rattle.sheet.specs.Lines.{text-accepted, text-refused, Says, table}
 use Rattle.sheet.proofs.Counts.{counted}
 use Rattle.sheet.proofs.Vectors.{seven, nine, ten, twenty-one, charged-so}
-use Rattle.sheet.specs.Lines.{text-accepted, text-refused, Says, table}
 
 accepted : (s : List ℕ) → ((room : ℕ) → length s ≤ room → textDue s room ≡ clear) → Says (text-accepted s)
 accepted s due o o′ (Number n) room p = ap Number (p .1)

@@ -6,12 +6,13 @@ use Prim.Native.Nat.{ℕ}
 use lib.Dec.{lit<, lit≤}
 use lib.IntN.{ℤ, pos, negsuc, negℤ}
 use lib.ListN.{replicate}
-use Rattle.ints.specs.Ints.{mark, minℤ, addE, minFrom}
 use Rattle.bases.specs.Bases.{reads, noBase, normal, canPair, pairIndex, isPurine}
+use Rattle.structure.specs.Table.{unpaired}
+use Rattle.brackets.specs.Brackets.{glyphs, brackets}
 use Rattle.sequences.specs.Sequences.{basesDue}
 use Rattle.cells.specs.Tri.{tri}
 use Rattle.cells.specs.Solve.{every}
-use Rattle.structure.specs.Table.{unpaired, glyphs, brackets}
+use Rattle.ints.specs.Ints.{mark, minℤ, addE, minFrom}
 use Rattle.charges.specs.Figures as fig
 use Rattle.charges.specs.Charge.{hairpin, mismatch, bulge, internal, stack, long, sized, hairpinOf, stackAt, bulgeOf, slant, internalOf, manyOf}
 use Rattle.charges.specs.Loops.{mayClose, arms, first, between, own, single, kindBy, kind, purines, hairpinAt, chargeBy, chargeAt, total}
@@ -19,8 +20,8 @@ use Rattle.energy_rule.specs.Rule.{innerAt, lowest, innerFrom, interior, paired
 use Rattle.energy_trace.specs.Choosing.{same, firstOf, firstRow, splitAt, splitting, reaches, innerRow, inside, shorter, anyMove, armsMove, closedMove, moveOf}
 use Rattle.energy_trace.specs.Trace.{traceOf, tracedOf}
 use Rattle.energy.specs.Calls.{energyAt}
-use Rattle.sheet.proofs.Energies.{settled}
 use Rattle.sheet.specs.Lines.{Says, energy, charged}
+use Rattle.sheet.proofs.Energies.{settled}
 
 -- so many equal cells, and so on
 abbrev runs : List (ℕ × ℤ) → List ℤ

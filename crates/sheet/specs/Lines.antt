@@ -9,8 +9,9 @@ use Rattle.refusals.specs.declared.Refusal.{Refusal}
 use Rattle.refusals.specs.declared.Place.the-variants.{At}
 use Rattle.structure.specs.declared.Answer.{Answer}
 use Rattle.structure.specs.declared.Answer.the-variants.{Number, Refused}
-use Rattle.structure.specs.Table.{unpaired, brackets}
-use Rattle.structure.specs.Calls.{Parses}
+use Rattle.structure.specs.Table.{unpaired}
+use Rattle.brackets.specs.Brackets.{brackets}
+use Rattle.brackets.specs.Calls.{Parses}
 use Rattle.cells.specs.Tri.{tri}
 use Rattle.counting.specs.declared.Counted.{Counted}
 use Rattle.counting.specs.declared.Counted.the-variants.{Folded}

@@ -79,7 +79,7 @@ fn tell_energy(found: Minimum) {
 fn text(s: &[u8], pairs: &mut [u16]) {
     io::write_all(STDOUT_FILENO, b"text ");
     io::write_all(STDOUT_FILENO, s);
-    tell(structure::from_dot_bracket(s, pairs));
+    tell(brackets::from_dot_bracket(s, pairs));
 }
 
 fn texts() {
@@ -96,9 +96,9 @@ fn distances() {
     text(b"(((...)))", &mut a);
     text(b"((...))..", &mut b);
     io::write_all(STDOUT_FILENO, b"base pair distance");
-    tell(structure::base_pair_distance(&a, &b));
+    tell(distances::base_pair_distance(&a, &b));
     io::write_all(STDOUT_FILENO, b"mountain distance");
-    tell(structure::mountain_distance(&a, &b));
+    tell(distances::mountain_distance(&a, &b));
 }
 
 // The brackets of the first n positions.
@@ -110,7 +110,7 @@ fn brackets(pairs: &[u16], n: usize) {
     if 32 < n {
         return;
     }
-    structure::to_dot_bracket(&pairs[..n], &mut text);
+    brackets::to_dot_bracket(&pairs[..n], &mut text);
     io::write_all(STDOUT_FILENO, b" ");
     io::write_all(STDOUT_FILENO, &text[..n]);
 }
@@ -262,14 +262,14 @@ fn limits() {
     let dots = [46u8; 4097];
     let mut pairs = [0u16; 4097];
     io::write_all(STDOUT_FILENO, b"4096 positions of text");
-    tell(structure::from_dot_bracket(&dots[..4096], &mut pairs));
+    tell(brackets::from_dot_bracket(&dots[..4096], &mut pairs));
     io::write_all(STDOUT_FILENO, b"4097 positions of text");
-    tell(structure::from_dot_bracket(&dots, &mut pairs));
+    tell(brackets::from_dot_bracket(&dots, &mut pairs));
     let table = [65535u16; 4097];
     io::write_all(STDOUT_FILENO, b"4096 positions of a table");
-    tell(structure::num_pairs(&table[..4096]));
+    tell(queries::num_pairs(&table[..4096]));
     io::write_all(STDOUT_FILENO, b"4097 positions of a table");
-    tell(structure::num_pairs(&table));
+    tell(queries::num_pairs(&table));
 }
 
 fn main() {

@@ -39,10 +39,3 @@ tableDue t = then (check (ltb structureLimit (length t)) 3 Nowhere) (unsoundDue 
 -- what a table is due that is written out into so much room, of which so much is needed: 3, 8, 4
 unfoldable pub writeDue : List ℕ → ℕ → ℕ → Due
 writeDue t room need = then (tableDue t) (check (ltb room need) 4 Nowhere)
-
--- what two tables are due: 3, 9, 8 (the first before the second)
-unfoldable pub bothDue : List ℕ → List ℕ → Due
-bothDue s t =
-    then (check (ltb structureLimit (length s) || ltb structureLimit (length t)) 3 Nowhere)
-    (then (check (not (eqb (length s) (length t))) 9 Nowhere)
-    (then (unsoundDue s) (unsoundDue t)))

@@ -2,7 +2,7 @@
 use mathlib.Core.Path.{_≡_}
 use mathlib.Core.Logic.{_≢_}
 use mathlib.Core.Bool.{cond}
-use mathlib.Core.List.{List, [], _∷_}
+use mathlib.Core.List.{List}
 use Prim.Native.Nat.{ℕ, zero, suc, _+_, _<_, _≤_}
 use lib.Dec.{ltb, eqb}
 use lib.ListN.{length, getD}
@@ -25,19 +25,6 @@ pub record Fold (p : ℕ → ℕ) (lo hi : ℕ) : Type 0 where
 abbrev pub Sound : List ℕ → Type 0
 Sound t = Fold (view t) 0 (length t)
 
--- the bracket of position k, whose entry is v: `.` (46), `(` (40) or `)` (41)
-abbrev pub glyph : ℕ → ℕ → ℕ
-glyph k v = cond (eqb v unpaired) 46 (cond (ltb k v) 40 41)
-
--- the brackets of the entries t, the first of which is that of position k
-unfoldable pub glyphs : ℕ → List ℕ → List ℕ
-glyphs k [] = []
-glyphs k (v ∷ t) = glyph k v ∷ glyphs (suc k) t
-
--- the bracket text of a table
-unfoldable pub brackets : List ℕ → List ℕ
-brackets t = glyphs 0 t
-
 -- 1 where the entry v of position k opens a pair
 abbrev pub opens : ℕ → ℕ → ℕ
 opens k v = cond (eqb v unpaired) 0 (cond (ltb k v) 1 0)
@@ -46,6 +33,15 @@ opens k v = cond (eqb v unpaired) 0 (cond (ltb k v) 1 0)
 abbrev pub opened : (ℕ → ℕ) → ℕ → ℕ
 opened p zero = 0
 opened p (suc k) = opened p k + opens k (p k)
+
+-- 1 where the entry v of position k closes a pair
+abbrev pub closes : ℕ → ℕ → ℕ
+closes k v = cond (eqb v unpaired) 0 (cond (ltb v k) 1 0)
+
+-- how many positions below k close a pair
+abbrev pub closed : (ℕ → ℕ) → ℕ → ℕ
+closed p zero = 0
+closed p (suc k) = closed p k + closes k (p k)
 
 -- the number of pairs of a table
 abbrev pub pairs : List ℕ → ℕ

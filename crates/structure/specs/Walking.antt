@@ -2,10 +2,9 @@
 use mathlib.Core.Path.{_≡_}
 use mathlib.Core.Logic.{_≢_, _⊎_}
 use mathlib.Core.Bool.{Bool, true, false, cond}
-use mathlib.Core.List.{List, [], _∷_}
 use Prim.Native.Nat.{ℕ, suc, _<_, _≤_}
 use lib.Dec.{ltb, leb, eqb}
-use Rattle.structure.specs.Table.{unpaired, Fold, opens}
+use Rattle.structure.specs.Table.{unpaired, Fold}
 use Rattle.structure.specs.Soundness.{named}
 
 -- entry k of n is 65535, or a position other than k that names k back
@@ -53,7 +52,3 @@ pub record Tells (r : Bool) (A B : Type 0) : Type 0 where
 -- the place after x, whose entry is v, on a walk that jumps over pairs and stays below hi; 0 where it can't
 abbrev pub hopTo : ℕ → ℕ → ℕ → ℕ
 hopTo x v hi = cond (eqb v unpaired) (suc x) (cond (ltb v x) 0 (cond (leb hi v) 0 (suc v)))
-
--- what the entry v of position k adds to a list of the pairs
-abbrev pub listedAt : ℕ → ℕ → List ℕ
-listedAt k v = cond (eqb (opens k v) 1) (k ∷ v ∷ []) []

@@ -1,14 +1,16 @@
-// Structures: pair tables, bracket text, queries and distances. Knows nothing of folding.
+// Structures: pair tables, and the check that one is sound. Knows nothing of folding.
 // A pair table is lent numbers of 16 bits, one a position: its partner, or 65535 where it is unpaired.
 use refusals::Refusal;
 use refusals::STRUCTURE_LIMIT;
 use refusals::Verdict;
-ghost use Rattle.structure.specs.Calls.{Parses, Spells, Lists, Pairs, Partners, Counts, Measures};
-ghost use Rattle.structure.specs.Distance.{basePairDistance, mountainDistance};
-
-mod distance;
-mod table;
-mod text;
+ghost use mathlib.Core.Path.{_≡_};
+ghost use Prim.Native.Nat.{_+_, _<_, _≤_};
+ghost use lib.ListN.{length};
+ghost use Rattle.refusals.specs.Refusals.{structureLimit, told, refuse};
+ghost use Rattle.refusals.specs.declared.Place.the-variants.{At};
+ghost use Rattle.structure.specs.Table.{view, Fold, Sound, opens};
+ghost use Rattle.structure.specs.Soundness.{named, crossedDue, unsoundDue, tableDue};
+ghost use Rattle.structure.specs.Walking.{AllNamed, FirstUnnamed, Crossed, Crossing, Shut, Escapes, Tells, hopTo};
 
 // A whole number (positions, pairs or a distance), or the refusal.
 pub enum Answer {
@@ -16,134 +18,183 @@ pub enum Answer {
     Refused(Refusal),
 }
 
-// Whether a position is paired, or the refusal.
-pub enum Pairing {
-    Paired(bool),
-    Refused(Refusal),
-}
-
-// A position's partner, that it has none, or the refusal.
-pub enum Mate {
-    With(usize),
-    Nobody,
-    Refused(Refusal),
-}
-
-// Bracket text into a pair table. Checks 3; 5 or 6 at the first offending place; 7; 4. Nothing is written before all of the text is judged.
-pub fn from_dot_bracket(text: &[u8], pairs: &mut [u16]) -> Answer
-    ensures { λ r. ⌜ Parses (now (text .entry)) (now (pairs .entry)) (now (pairs .exit)) r ⌝ }
+// 1 where the entry v of position k opens a pair.
+pub fn opening(k: usize, v: u16) -> usize
+    ensures { λ r. ⌜ r ≡ opens k v ⌝ }
 {
-    let positions = text.len();
-    if STRUCTURE_LIMIT < positions {
-        return Answer::Refused(Refusal::TooLong);
+    if v == 65535 {
+        return 0;
     }
-    let offence = text::first_offence(text);
-    if let Verdict::Refuse(refusal) = offence {
-        return Answer::Refused(refusal);
+    if k < v as usize {
+        return 1;
     }
-    let unmatched = text::first_unmatched(text);
-    if let Verdict::Refuse(unclosed) = unmatched {
-        return Answer::Refused(unclosed);
-    }
-    if pairs.len() < positions {
-        return Answer::Refused(Refusal::TooShort);
-    }
-    text::fill(text, pairs);
-    Answer::Number(positions)
+    0
 }
 
-// The brackets of a table: `(` where a pair opens, `)` where it closes, `.` where nothing pairs. The number of positions.
-pub fn to_dot_bracket(pairs: &[u16], text: &mut [u8]) -> Answer
-    ensures { λ r. ⌜ Spells (now (pairs .entry)) (now (text .entry)) (now (text .exit)) r ⌝ }
+// Is the entry of k 65535, or a position other than k that names k back?
+fn named_back(table: &[u16], k: usize) -> bool
+    requires { ⌜ k < length (now table) ⌝ }
+    ensures { λ r. ⌜ r ≡ named (view (now (table .entry))) (length (now (table .entry))) k ⌝ }
 {
-    let found = table::verify(pairs);
-    if let Verdict::Refuse(refusal) = found {
-        return Answer::Refused(refusal);
+    let v = table[k] as usize;
+    if v == 65535 {
+        return true;
     }
-    if text.len() < pairs.len() {
-        return Answer::Refused(Refusal::TooShort);
+    if v < table.len() {
+        if v == k {
+            return false;
+        }
+        let w = table[v] as usize;
+        return w == k;
     }
-    table::spell(pairs, text);
-    Answer::Number(pairs.len())
+    false
 }
 
-// The number of pairs.
-pub fn num_pairs(pairs: &[u16]) -> Answer
-    ensures { λ r. ⌜ Counts (now (pairs .entry)) r ⌝ }
+// The first position whose entry is not, or the length.
+fn first_unnamed(table: &[u16]) -> usize
+    ensures { λ r. ⌜ FirstUnnamed (view (now (table .entry))) (length (now (table .entry))) r ⌝ }
 {
-    let found = table::verify(pairs);
-    if let Verdict::Refuse(refusal) = found {
-        return Answer::Refused(refusal);
+    let mut i: usize = 0;
+    while i < table.len() {
+        let ok = named_back(table, i);
+        if !ok {
+            return i;
+        }
+        i += 1;
     }
-    Answer::Number(table::count(pairs))
+    i
 }
 
-// Does position i have a partner? A place outside has none.
-pub fn is_paired(pairs: &[u16], i: usize) -> Pairing
-    ensures { λ r. ⌜ Pairs (now (pairs .entry)) i r ⌝ }
+// The place after x, whose entry is v: a pair that stays below hi is jumped over, and 0 says that it doesn't.
+fn hop(x: usize, v: usize, hi: usize) -> usize
+    requires { ⌜ x < 65536 ⌝ }
+    requires { ⌜ v < 65536 ⌝ }
+    ensures { λ r. ⌜ r ≡ hopTo x v hi ⌝ }
 {
-    let found = table::verify(pairs);
-    if let Verdict::Refuse(refusal) = found {
-        return Pairing::Refused(refusal);
+    if v == 65535 {
+        return x + 1;
     }
-    if pairs.len() <= i {
-        return Pairing::Paired(false);
+    if v < x {
+        return 0;
     }
-    Pairing::Paired(pairs[i] != 65535)
+    if hi <= v {
+        return 0;
+    }
+    v + 1
 }
 
-// The partner of position i. A place outside has none.
-pub fn partner(pairs: &[u16], i: usize) -> Mate
-    ensures { λ r. ⌜ Partners (now (pairs .entry)) i r ⌝ }
+// Do the positions from lo up to hi pair only with each other? The pairs inside are known to fold, so the walk jumps over them.
+fn walk(table: &[u16], lo: usize, hi: usize) -> bool
+    requires { ⌜ length (now table) ≤ structureLimit ⌝ }
+    requires { ⌜ (lo ≤ hi) × (hi ≤ length (now table)) ⌝ }
+    requires { ⌜ AllNamed (view (now table)) (length (now table)) ⌝ }
+    requires { ⌜ Shut (view (now table)) (length (now table)) lo ⌝ }
+    ensures { λ r. ⌜ Tells r (Fold (view (now (table .entry))) lo hi) (Escapes (view (now (table .entry))) lo hi) ⌝ }
 {
-    let found = table::verify(pairs);
-    if let Verdict::Refuse(refusal) = found {
-        return Mate::Refused(refusal);
+    let mut x = lo;
+    while x < hi {
+        let y = hop(x, table[x] as usize, hi);
+        if y == 0 {
+            return false;
+        }
+        x = y;
     }
-    if pairs.len() <= i {
-        return Mate::Nobody;
-    }
-    let j = pairs[i] as usize;
-    if j == 65535 {
-        return Mate::Nobody;
-    }
-    Mate::With(j)
+    true
 }
 
-// Writes the pairs as i, j, i, j, .., i < j, by rising i. The number of pairs.
-pub fn base_pairs(pairs: &[u16], out: &mut [u16]) -> Answer
-    ensures { λ r. ⌜ Lists (now (pairs .entry)) (now (out .entry)) (now (out .exit)) r ⌝ }
+// Does the pair that opens at i, if one does, fold?
+fn level(table: &[u16], i: usize) -> bool
+    requires { ⌜ length (now table) ≤ structureLimit ⌝ }
+    requires { ⌜ i < length (now table) ⌝ }
+    requires { ⌜ AllNamed (view (now table)) (length (now table)) ⌝ }
+    requires { ⌜ Shut (view (now table)) (length (now table)) (i + 1) ⌝ }
+    ensures { λ r. ⌜ Tells r (Shut (view (now (table .entry))) (length (now (table .entry))) i) (Crossing (view (now (table .entry))) (length (now (table .entry)))) ⌝ }
 {
-    let found = table::verify(pairs);
-    if let Verdict::Refuse(refusal) = found {
-        return Answer::Refused(refusal);
+    let v = table[i];
+    if opening(i, v) == 0 {
+        return true;
     }
-    let n = table::count(pairs);
-    if out.len() < 2 * n {
-        return Answer::Refused(Refusal::TooShort);
-    }
-    table::list(pairs, out);
-    Answer::Number(n)
+    walk(table, i + 1, v as usize)
 }
 
-// How many pairs are in one of two structures and not in the other.
-pub fn base_pair_distance(a: &[u16], b: &[u16]) -> Answer
-    ensures { λ r. ⌜ Measures (now (a .entry)) (now (b .entry)) (basePairDistance (now (a .entry)) (now (b .entry))) r ⌝ }
+// Is no pair crossed by another? From right to left each position is walked over by one pair only, the innermost around it.
+fn nested(table: &[u16]) -> bool
+    requires { ⌜ length (now table) ≤ structureLimit ⌝ }
+    requires { ⌜ AllNamed (view (now table)) (length (now table)) ⌝ }
+    ensures { λ r. ⌜ Tells r (Sound (now (table .entry))) (Crossing (view (now (table .entry))) (length (now (table .entry)))) ⌝ }
 {
-    let found = distance::both_checks(a, b);
-    if let Verdict::Refuse(q) = found {
-        return Answer::Refused(q);
+    let mut i = table.len();
+    while 0 < i {
+        i -= 1;
+        let ok = level(table, i);
+        if !ok {
+            return false;
+        }
     }
-    Answer::Number(distance::pairs_apart(a, b))
+    walk(table, 0, table.len())
 }
 
-// How far the mountains of two structures are apart: the differences of their heights, summed.
-pub fn mountain_distance(a: &[u16], b: &[u16]) -> Answer
-    ensures { λ r. ⌜ Measures (now (a .entry)) (now (b .entry)) (mountainDistance (now (a .entry)) (now (b .entry))) r ⌝ }
+// Is the pair that opens at a crossed by one that opens further right?
+fn crossed_at(table: &[u16], a: usize) -> bool
+    requires { ⌜ length (now table) ≤ structureLimit ⌝ }
+    requires { ⌜ a < length (now table) ⌝ }
+    ensures { λ r. ⌜ Tells r (Crossed (view (now (table .entry))) (length (now (table .entry))) a) (Crossed (view (now (table .entry))) (length (now (table .entry))) a → ⊥) ⌝ }
 {
-    let found = distance::both_checks(a, b);
-    if let Verdict::Refuse(q) = found {
-        return Answer::Refused(q);
+    let n = table.len();
+    let end = table[a] as usize;
+    if n <= end {
+        return false;
     }
-    Answer::Number(distance::climb(a, b))
+    let mut b = a + 1;
+    while b < end {
+        let v = table[b] as usize;
+        if end < v {
+            if v < n {
+                return true;
+            }
+        }
+        b += 1;
+    }
+    false
+}
+
+// The lowest opening position of a crossed pair, where there is one: only an unsound table pays for this search.
+fn lowest_crossed(table: &[u16]) -> usize
+    requires { ⌜ length (now table) ≤ structureLimit ⌝ }
+    requires { ⌜ Crossing (view (now table)) (length (now table)) ⌝ }
+    ensures { λ r. ⌜ crossedDue (view (now (table .entry))) (length (now (table .entry))) ≡ refuse 8 (At r) ⌝ }
+{
+    let mut a: usize = 0;
+    while a < table.len() {
+        if crossed_at(table, a) {
+            return a;
+        }
+        a += 1;
+    }
+    a
+}
+
+// 8 where the table is unsound, with the place.
+pub fn unsound(table: &[u16]) -> Verdict
+    requires { ⌜ length (now table) ≤ structureLimit ⌝ }
+    ensures { λ r. ⌜ told r ≡ unsoundDue (now (table .entry)) ⌝ }
+{
+    let k = first_unnamed(table);
+    if k < table.len() {
+        return Verdict::Refuse(Refusal::Unsound(k));
+    }
+    if nested(table) {
+        return Verdict::Clear;
+    }
+    Verdict::Refuse(Refusal::Unsound(lowest_crossed(table)))
+}
+
+// 3 where the table is too long, or 8.
+pub fn verify(table: &[u16]) -> Verdict
+    ensures { λ r. ⌜ told r ≡ tableDue (now (table .entry)) ⌝ }
+{
+    if STRUCTURE_LIMIT < table.len() {
+        return Verdict::Refuse(Refusal::TooLong);
+    }
+    unsound(table)
 }

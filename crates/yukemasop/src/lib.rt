@@ -11,10 +11,11 @@ use refusals::Place;
 use refusals::Refusal;
 ghost use mathlib.Core.Path.{_≡_};
 ghost use Rattle.bases.specs.Bases.{reads, canPair, pairIndex};
+ghost use Rattle.queries.specs.Calls.{Lists, Pairs, Partners, Counts};
+ghost use Rattle.brackets.specs.Calls.{Parses, Spells};
+ghost use Rattle.distances.specs.Distance.{Measures, basePairDistance, mountainDistance};
 ghost use Rattle.counting.specs.Calls.{Folds, Replaces, Adds, Erases, Traces};
 ghost use Rattle.energy.specs.Calls.{Folds as EnergyFolds};
-ghost use Rattle.structure.specs.Calls.{Parses, Spells, Lists, Pairs, Partners, Counts, Measures};
-ghost use Rattle.structure.specs.Distance.{basePairDistance, mountainDistance};
 ghost use Rattle.flat.specs.Flat.{flatBase, flatAnswer, flatPairing, flatPartner, flatCounted, flatEdited, flatTraced, flatLeast, recordIn, Flat};
 
 // 0.1.0, as major × 10,000 + minor × 100 + patch.
@@ -65,56 +66,56 @@ pub extern "C" fn ykm_pair_index(a: u8, b: u8) -> usize
 pub extern "C" fn ykm_from_dot_bracket(text: &[u8], pairs: &mut [u16]) -> YkmAnswer
     ensures { λ r. ⌜ Flat flatAnswer (Parses (now (text .entry)) (now (pairs .entry)) (now (pairs .exit))) r ⌝ }
 {
-    flat::flat_answer(structure::from_dot_bracket(text, pairs))
+    flat::flat_answer(brackets::from_dot_bracket(text, pairs))
 }
 
 #[no_mangle]
 pub extern "C" fn ykm_to_dot_bracket(pairs: &[u16], text: &mut [u8]) -> YkmAnswer
     ensures { λ r. ⌜ Flat flatAnswer (Spells (now (pairs .entry)) (now (text .entry)) (now (text .exit))) r ⌝ }
 {
-    flat::flat_answer(structure::to_dot_bracket(pairs, text))
+    flat::flat_answer(brackets::to_dot_bracket(pairs, text))
 }
 
 #[no_mangle]
 pub extern "C" fn ykm_base_pairs(pairs: &[u16], out: &mut [u16]) -> YkmAnswer
     ensures { λ r. ⌜ Flat flatAnswer (Lists (now (pairs .entry)) (now (out .entry)) (now (out .exit))) r ⌝ }
 {
-    flat::flat_answer(structure::base_pairs(pairs, out))
+    flat::flat_answer(queries::base_pairs(pairs, out))
 }
 
 #[no_mangle]
 pub extern "C" fn ykm_is_paired(pairs: &[u16], i: usize) -> YkmAnswer
     ensures { λ r. ⌜ Flat flatPairing (Pairs (now (pairs .entry)) i) r ⌝ }
 {
-    flat::flat_pairing(structure::is_paired(pairs, i))
+    flat::flat_pairing(queries::is_paired(pairs, i))
 }
 
 #[no_mangle]
 pub extern "C" fn ykm_partner(pairs: &[u16], i: usize) -> YkmAnswer
     ensures { λ r. ⌜ Flat flatPartner (Partners (now (pairs .entry)) i) r ⌝ }
 {
-    flat::flat_partner(structure::partner(pairs, i))
+    flat::flat_partner(queries::partner(pairs, i))
 }
 
 #[no_mangle]
 pub extern "C" fn ykm_num_pairs(pairs: &[u16]) -> YkmAnswer
     ensures { λ r. ⌜ Flat flatAnswer (Counts (now (pairs .entry))) r ⌝ }
 {
-    flat::flat_answer(structure::num_pairs(pairs))
+    flat::flat_answer(queries::num_pairs(pairs))
 }
 
 #[no_mangle]
 pub extern "C" fn ykm_base_pair_distance(a: &[u16], b: &[u16]) -> YkmAnswer
     ensures { λ r. ⌜ Flat flatAnswer (Measures (now (a .entry)) (now (b .entry)) (basePairDistance (now (a .entry)) (now (b .entry)))) r ⌝ }
 {
-    flat::flat_answer(structure::base_pair_distance(a, b))
+    flat::flat_answer(distances::base_pair_distance(a, b))
 }
 
 #[no_mangle]
 pub extern "C" fn ykm_mountain_distance(a: &[u16], b: &[u16]) -> YkmAnswer
     ensures { λ r. ⌜ Flat flatAnswer (Measures (now (a .entry)) (now (b .entry)) (mountainDistance (now (a .entry)) (now (b .entry)))) r ⌝ }
 {
-    flat::flat_answer(structure::mountain_distance(a, b))
+    flat::flat_answer(distances::mountain_distance(a, b))
 }
 
 #[no_mangle]

@@ -10,8 +10,8 @@ use Rattle.refusals.specs.Refusals.{foldLimit}
 use Rattle.structure.specs.declared.Answer.{Answer}
 use Rattle.structure.specs.declared.Answer.the-variants.{Number}
 use Rattle.structure.specs.Table.{view, Sound}
-use Rattle.structure.specs.Calls.{Counts}
 use Rattle.structure.proofs.Checking.{table-clear}
+use Rattle.queries.specs.Calls.{Counts}
 use Rattle.charges.specs.Loops.{firstBarred, Chargeable}
 use Rattle.charges.proofs.Charges.{fold-reach}
 use Rattle.charges.proofs.Barred.{barred-most, candidate}

@@ -1,0 +1,2 @@
+-- What the contracts of `distances` cite.
+pub mod Distance

@@ -1,0 +1,2 @@
+-- What the contracts of `queries` cite.
+pub mod Calls
