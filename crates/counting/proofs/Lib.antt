@@ -1,10 +1,5 @@
--- The theorems of the public pair-count calls.
+-- The theorems of the pair-count fold.
 pub mod Accepted
-pub mod Believable
 pub mod MostPairs
 pub mod OneAnswer
-pub mod Good
-pub mod Fresh
-pub mod Honest
-pub mod Elsewhere
 pub mod Spare

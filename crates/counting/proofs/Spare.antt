@@ -1,26 +1,14 @@
--- The surplus of every lent buffer is left, and so is its length, whatever a fold or a traceback answers. Assumes nothing.
+-- The surplus of every lent buffer is left, and so is its length, whatever a fold answers. Assumes nothing.
 use mathlib.Core.List.{List}
 use Prim.Native.Nat.{ℕ}
 use lib.ListN.{length}
 use Rattle.sequences.proofs.Spared.{Spared, untouched, letters-spared}
 use Rattle.cells.specs.Tri.{tri}
 use Rattle.count_trace.proofs.Reached.{traced-long, traced-outside}
-use Rattle.counting.specs.declared.Record.{Record}
 use Rattle.counting.specs.declared.Counted.{Counted}
 use Rattle.counting.specs.declared.Counted.the-variants.{Folded, Refused}
-use Rattle.counting.specs.declared.Traced.{Traced}
-use Rattle.counting.specs.declared.Traced.the-variants.{Pairs, Refused as TraceRefused}
-use Rattle.counting.specs.Calls.{Folds, Traces}
+use Rattle.counting.specs.Calls.{Folds}
 use Rattle.counting.proofs.Accepted.{foldable}
-use Rattle.counting.proofs.Believable.{trace-clear}
-
-pub traceback-spare : (r : Record) (b t o o′ : List ℕ) (a : Traced) → Traces r b t o o′ a → Spared (r .length) o o′
-traceback-spare r b t o o′ (Pairs m) c = rw (c .1)
-    (record {
-      long = traced-long b t (r .gap) (r .length) o (trace-clear (r .length) b t o (c .0) .1);
-      spare = traced-outside b t (r .gap) (r .length) o;
-    })
-traceback-spare r b t o o′ (TraceRefused q) c = untouched (r .length) o o′ (c .1)
 
 pub fold-spare :
     (s : List ℕ) (gap : ℕ) (b b′ t t′ o o′ : List ℕ) (a : Counted) → Folds s gap b b′ t t′ o o′ a →

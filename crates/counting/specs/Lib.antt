@@ -1,5 +1,4 @@
--- What the contracts and the theorems of the public pair-count calls cite.
+-- What the contract and the theorems of the pair-count fold cite.
 pub mod Checks
 pub mod Calls
 pub mod Greatest
-pub mod Histories

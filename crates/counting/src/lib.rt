@@ -1,7 +1,5 @@
-// Counting pairs: the public fold, its edits and its traceback, over memory that the caller lends.
+// Counting pairs: the public fold, over memory that the caller lends.
 // The kept bases and the cells stay with the caller, so that edits can follow.
-use crate::kept::kept_checks;
-use bases::Reading;
 use refusals::FOLD_LIMIT;
 use refusals::Refusal;
 use refusals::Verdict;
@@ -9,12 +7,7 @@ ghost use mathlib.Core.Path.{_≡_};
 ghost use Prim.Native.Nat.{_≤_, _<_};
 ghost use lib.ListN.{length};
 ghost use Rattle.cells.specs.Tri.{tri};
-ghost use Rattle.counting.specs.Calls.{Folds, Replaces, Adds, Erases, Traces, countOf};
-
-mod kept;
-
-// The place that is told of an edit's byte, which is its only one.
-const EDIT_PLACE: usize = 0;
+ghost use Rattle.counting.specs.Calls.{Folds, countOf};
 
 // What a fold leaves to edits: how many bases there are, and the gap.
 pub struct Record {
@@ -28,20 +21,8 @@ pub enum Counted {
     Refused(Refusal),
 }
 
-// The record and the count after an edit, or the refusal with the record as it came.
-pub enum Edited {
-    Done(Record, usize),
-    Refused(Refusal, Record),
-}
-
-// The number of pairs traced, or the refusal.
-pub enum Traced {
-    Pairs(usize),
-    Refused(Refusal),
-}
-
 // The count of n bases: the cell of the whole span.
-fn count(cells: &[u16], n: usize) -> usize
+pub fn count(cells: &[u16], n: usize) -> usize
     requires { ⌜ (0 < n) × (n < 65535) × (tri n ≤ length (now cells)) ⌝ }
     ensures { λ r. ⌜ r ≡ countOf (now (cells .entry)) n ⌝ }
 {
@@ -83,105 +64,4 @@ pub fn nussinov(
     count_fill::fill(bases, cells, n, gap);
     count_trace::traceback(bases, cells, gap, n, pairs);
     Counted::Folded(Record { length: n, gap }, count(cells, n))
-}
-
-// The base at a position becomes that of a byte, and the cells over it are rewritten. Checks 11, 4, 11, 10, 2.
-pub fn replace(
-    held: Record,
-    bases: &mut [u8],
-    cells: &mut [u16],
-    position: usize,
-    byte: u8,
-) -> Edited
-    ensures { λ r. ⌜ Replaces held (now (bases .entry)) (now (bases .exit)) (now (cells .entry)) (now (cells .exit)) position byte r ⌝ }
-{
-    let n = held.length;
-    let verdict = kept_checks(n, bases, cells);
-    if let Verdict::Refuse(refusal) = verdict {
-        return Edited::Refused(refusal, held);
-    }
-    if n <= position {
-        return Edited::Refused(Refusal::Outside, held);
-    }
-    let reading = bases::read_base(byte);
-    let Reading::Is(base) = reading else {
-        return Edited::Refused(Refusal::NoBase(EDIT_PLACE), held);
-    };
-    bases[position] = bases::letter(base);
-    count_fill::columns(bases, cells, position, position, n, held.gap);
-    Edited::Done(held, count(cells, n))
-}
-
-// The base of a byte is added at the end, and its column is written. Checks 11, 4, 11, 2, 3, 4.
-pub fn add(held: Record, bases: &mut [u8], cells: &mut [u16], byte: u8) -> Edited
-    ensures { λ r. ⌜ Adds held (now (bases .entry)) (now (bases .exit)) (now (cells .entry)) (now (cells .exit)) byte r ⌝ }
-{
-    let n = held.length;
-    let verdict = kept_checks(n, bases, cells);
-    if let Verdict::Refuse(refusal) = verdict {
-        return Edited::Refused(refusal, held);
-    }
-    let reading = bases::read_base(byte);
-    let Reading::Is(base) = reading else {
-        return Edited::Refused(Refusal::NoBase(EDIT_PLACE), held);
-    };
-    if FOLD_LIMIT <= n {
-        return Edited::Refused(Refusal::TooLong, held);
-    }
-    let longer = n + 1;
-    if bases.len() < longer {
-        return Edited::Refused(Refusal::TooShort, held);
-    }
-    if cells.len() < cells::place(0, longer) {
-        return Edited::Refused(Refusal::TooShort, held);
-    }
-    let gap = held.gap;
-    bases[n] = bases::letter(base);
-    count_fill::columns(bases, cells, n, n, longer, gap);
-    Edited::Done(
-        Record {
-            length: longer,
-            gap,
-        },
-        count(cells, longer),
-    )
-}
-
-// The last base is taken away; its byte and its cells stand, as spare memory. Checks 11, 4, 11, 1.
-pub fn erase(held: Record, bases: &[u8], cells: &[u16]) -> Edited
-    ensures { λ r. ⌜ Erases held (now (bases .entry)) (now (cells .entry)) r ⌝ }
-{
-    let n = held.length;
-    let verdict = kept_checks(n, bases, cells);
-    if let Verdict::Refuse(refusal) = verdict {
-        return Edited::Refused(refusal, held);
-    }
-    if n == 1 {
-        return Edited::Refused(Refusal::Empty, held);
-    }
-    let shorter = n - 1;
-    let gap = held.gap;
-    Edited::Done(
-        Record {
-            length: shorter,
-            gap,
-        },
-        count(cells, shorter),
-    )
-}
-
-// The structure that the kept bases and cells lead to. Checks 11, 4, 11, 4.
-pub fn traceback(held: Record, bases: &[u8], cells: &[u16], pairs: &mut [u16]) -> Traced
-    ensures { λ r. ⌜ Traces held (now (bases .entry)) (now (cells .entry)) (now (pairs .entry)) (now (pairs .exit)) r ⌝ }
-{
-    let n = held.length;
-    let verdict = kept_checks(n, bases, cells);
-    if let Verdict::Refuse(refusal) = verdict {
-        return Traced::Refused(refusal);
-    }
-    if pairs.len() < n {
-        return Traced::Refused(Refusal::TooShort);
-    }
-    count_trace::traceback(bases, cells, held.gap, n, pairs);
-    Traced::Pairs(count(cells, n))
 }

@@ -16,11 +16,11 @@ use Rattle.queries.specs.declared.Mate.{Mate}
 use Rattle.queries.specs.declared.Mate.the-variants.{With, Nobody, Refused as MateRefused}
 use Rattle.counting.specs.declared.Counted.{Counted}
 use Rattle.counting.specs.declared.Counted.the-variants.{Folded, Refused as CountedRefused}
-use Rattle.counting.specs.declared.Edited.{Edited}
-use Rattle.counting.specs.declared.Edited.the-variants.{Done, Refused as EditRefused}
-use Rattle.counting.specs.declared.Traced.{Traced}
-use Rattle.counting.specs.declared.Traced.the-variants.{Pairs, Refused as TraceRefused}
 use Rattle.counting.specs.declared.Record.{Record}
+use Rattle.count_edits.specs.declared.Edited.{Edited}
+use Rattle.count_edits.specs.declared.Edited.the-variants.{Done, Refused as EditRefused}
+use Rattle.count_edits.specs.declared.Traced.{Traced}
+use Rattle.count_edits.specs.declared.Traced.the-variants.{Pairs, Refused as TraceRefused}
 use Rattle.energy.specs.declared.Minimum.{Minimum}
 use Rattle.energy.specs.declared.Minimum.the-variants.{Energy, Refused as MinimumRefused}
 use Rattle.flat.specs.declared.YkmBase.{YkmBase}

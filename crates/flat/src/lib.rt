@@ -1,7 +1,7 @@
 // Answers as structs of numbers, for C.
+use count_edits::Edited;
+use count_edits::Traced;
 use counting::Counted;
-use counting::Edited;
-use counting::Traced;
 use energy::Minimum;
 use queries::Mate;
 use queries::Pairing;

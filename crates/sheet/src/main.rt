@@ -1,7 +1,7 @@
 // The bench sheet: its lines run through the public calls, and what each comes to written out.
 // The lines that are marked as proved are also the table of specs/Lines.antt, proved in proofs/Table.antt.
+use count_edits::Edited;
 use counting::Counted;
-use counting::Edited;
 use counting::Record;
 use energy::Minimum;
 use libc::STDOUT_FILENO;
@@ -173,13 +173,13 @@ fn least_energies() {
 fn traced(held: Record, bases: &[u8], cells: &[u16]) {
     let mut pairs = [0u16; 16];
     let n = held.length;
-    counting::traceback(held, bases, cells, &mut pairs);
+    count_edits::traceback(held, bases, cells, &mut pairs);
     brackets(&pairs, n);
     io::write_all(STDOUT_FILENO, b"\n");
 }
 
 fn add(held: Record, bases: &mut [u8], cells: &mut [u16], byte: u8) {
-    let edited = counting::add(held, bases, cells, byte);
+    let edited = count_edits::add(held, bases, cells, byte);
     tell_edit(edited);
     if let Edited::Done(after, _) = edited {
         traced(after, bases, cells);
@@ -187,7 +187,7 @@ fn add(held: Record, bases: &mut [u8], cells: &mut [u16], byte: u8) {
 }
 
 fn replace(held: Record, bases: &mut [u8], cells: &mut [u16], position: usize, byte: u8) -> Record {
-    let edited = counting::replace(held, bases, cells, position, byte);
+    let edited = count_edits::replace(held, bases, cells, position, byte);
     tell_edit(edited);
     match edited {
         Edited::Done(after, _) => {
@@ -225,7 +225,7 @@ fn fold_limits() {
     io::write_all(STDOUT_FILENO, b"\n");
     if let Counted::Folded(held, _) = folded {
         io::write_all(STDOUT_FILENO, b"add at 256 bases");
-        tell_edit(counting::add(held, &mut bases, &mut cells, b'G'));
+        tell_edit(count_edits::add(held, &mut bases, &mut cells, b'G'));
         io::write_all(STDOUT_FILENO, b"\n");
     }
 }

@@ -14,7 +14,8 @@ ghost use Rattle.bases.specs.Bases.{reads, canPair, pairIndex};
 ghost use Rattle.queries.specs.Calls.{Lists, Pairs, Partners, Counts};
 ghost use Rattle.brackets.specs.Calls.{Parses, Spells};
 ghost use Rattle.distances.specs.Distance.{Measures, basePairDistance, mountainDistance};
-ghost use Rattle.counting.specs.Calls.{Folds, Replaces, Adds, Erases, Traces};
+ghost use Rattle.counting.specs.Calls.{Folds};
+ghost use Rattle.count_edits.specs.Calls.{Replaces, Adds, Erases, Traces};
 ghost use Rattle.energy.specs.Calls.{Folds as EnergyFolds};
 ghost use Rattle.flat.specs.Flat.{flatBase, flatAnswer, flatPairing, flatPartner, flatCounted, flatEdited, flatTraced, flatLeast, recordIn, Flat};
 
@@ -159,7 +160,7 @@ pub extern "C" fn ykm_replace(
         length: held.length,
         gap: held.gap,
     };
-    flat::flat_edited(counting::replace(kept, bases, cells, position, byte))
+    flat::flat_edited(count_edits::replace(kept, bases, cells, position, byte))
 }
 
 #[no_mangle]
@@ -175,7 +176,7 @@ pub extern "C" fn ykm_add(
         length: held.length,
         gap: held.gap,
     };
-    flat::flat_edited(counting::add(kept, bases, cells, byte))
+    flat::flat_edited(count_edits::add(kept, bases, cells, byte))
 }
 
 #[no_mangle]
@@ -186,7 +187,7 @@ pub extern "C" fn ykm_erase(held: YkmRecord, bases: &[u8], cells: &[u16]) -> Ykm
         length: held.length,
         gap: held.gap,
     };
-    flat::flat_edited(counting::erase(kept, bases, cells))
+    flat::flat_edited(count_edits::erase(kept, bases, cells))
 }
 
 #[no_mangle]
@@ -202,5 +203,5 @@ pub extern "C" fn ykm_traceback(
         length: held.length,
         gap: held.gap,
     };
-    flat::flat_traced(counting::traceback(kept, bases, cells, pairs))
+    flat::flat_traced(count_edits::traceback(kept, bases, cells, pairs))
 }

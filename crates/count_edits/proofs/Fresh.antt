@@ -13,23 +13,24 @@ use Rattle.structure.specs.Table.{view}
 use Rattle.structure.specs.Soundness.{tableDue}
 use Rattle.sequences.proofs.Letters.{letter-at}
 use Rattle.cells.specs.Tri.{tri}
-use Rattle.count_trace.specs.Trace.{tracedOf}
-use Rattle.count_trace.proofs.Same.{traced-same}
-use Rattle.count_trace.proofs.Reached.{traced-long}
 use Rattle.edits.specs.Edits.{Edit, spelled}
 use Rattle.edits.specs.Runs.{Run}
 use Rattle.edits.specs.Kinds.{Good, Alike}
 use Rattle.edits.proofs.Histories.{alike}
+use Rattle.count_trace.specs.Trace.{tracedOf}
+use Rattle.count_trace.proofs.Same.{traced-same}
+use Rattle.count_trace.proofs.Reached.{traced-long}
 use Rattle.counting.specs.declared.Record.{Record}
 use Rattle.counting.specs.declared.Counted.the-variants.{Folded}
-use Rattle.counting.specs.declared.Traced.the-variants.{Pairs}
-use Rattle.counting.specs.Calls.{countOf, recordOf, Folds, Traces}
+use Rattle.counting.specs.Calls.{countOf, recordOf, Folds}
 use Rattle.counting.specs.Greatest.{Greatest}
-use Rattle.counting.specs.Histories.{State, state, Call, AsFolded}
 use Rattle.counting.proofs.Accepted.{foldable}
-use Rattle.counting.proofs.Believable.{trace-clear}
 use Rattle.counting.proofs.MostPairs.{most-pairs, fold-taken}
-use Rattle.counting.proofs.Good.{counts, good-fold, good-accepted, good-run}
+use Rattle.count_edits.specs.declared.Traced.the-variants.{Pairs}
+use Rattle.count_edits.specs.Calls.{Traces}
+use Rattle.count_edits.specs.Histories.{State, state, Call, AsFolded}
+use Rattle.count_edits.proofs.Believable.{trace-clear}
+use Rattle.count_edits.proofs.Good.{counts, good-fold, good-accepted, good-run}
 
 -- two lists agree on the first n entries
 take-same : (n : ℕ) (a b : List ℕ) → n ≤ length a → n ≤ length b → ((k : ℕ) → k < n → view a k ≡ view b k) → take n a ≡ take n b

@@ -1,14 +1,14 @@
--- `counting::erase` meets its contract: the count of the bases that are left is read where it stands. Assumes nothing.
+-- `count_edits::erase` meets its contract: the count of the bases that are left is read where it stands. Assumes nothing.
 use mathlib.Core.Path.{refl}
 use Prim.Native.Nat.{_-_}
 use native.Mathlib.Omega.{arith}
 use borrow.Author.Needs.{needs}
 use borrow.Author.Tests.{eq-eqb, ne-eqb}
 use Rattle.cells.proofs.Places.{tri-mono}
-use Rattle.counting.specs.Checks.{eraseDue}
-use Rattle.counting.proofs.Believable.{passed}
-use Rattle.counting.proofs.erase.Statement.{statement}
-use Rattle.counting.proofs.erase.Tie as tie
+use Rattle.count_edits.specs.Checks.{eraseDue}
+use Rattle.count_edits.proofs.Believable.{passed}
+use Rattle.count_edits.proofs.erase.Statement.{statement}
+use Rattle.count_edits.proofs.erase.Tie as tie
 
 kept-checks-requires : tie.Need-kept-checks-requires
 kept-checks-requires c κs = search needs

@@ -1,4 +1,4 @@
--- `counting::add` meets its contract: each refusal is the first that the row finds, and the letter and its column are written as it says. Assumes nothing.
+-- `count_edits::add` meets its contract: each refusal is the first that the row finds, and the letter and its column are written as it says. Assumes nothing.
 use mathlib.Core.Path.{refl, ap, _∙_}
 use mathlib.Core.Logic.{⊎-elim}
 use Prim.Native.Nat.{_+_}
@@ -10,10 +10,10 @@ use Rattle.refusals.specs.Refusals.{foldLimit}
 use Rattle.bases.proofs.Laws.{read-is, read-letter, read-none}
 use Rattle.cells.specs.Tri.{tri}
 use Rattle.cells.proofs.Places.{less-or}
-use Rattle.counting.specs.Checks.{addDue}
-use Rattle.counting.proofs.Believable.{passed}
-use Rattle.counting.proofs.add.Statement.{statement}
-use Rattle.counting.proofs.add.Tie as tie
+use Rattle.count_edits.specs.Checks.{addDue}
+use Rattle.count_edits.proofs.Believable.{passed}
+use Rattle.count_edits.proofs.add.Statement.{statement}
+use Rattle.count_edits.proofs.add.Tie as tie
 
 kept-checks-requires : tie.Need-kept-checks-requires
 kept-checks-requires c κs = search needs

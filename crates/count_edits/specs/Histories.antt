@@ -9,11 +9,11 @@ use Rattle.structure.specs.Table.{view}
 use Rattle.cells.specs.Fill.{at}
 use Rattle.edits.specs.Edits.{Edit, replace, add, erase}
 use Rattle.edits.specs.Runs.{State as StateOf, Outcome, done, refused, Call as CallOf}
 use Rattle.counting.specs.declared.Record.{Record}
-use Rattle.counting.specs.declared.Edited.{Edited}
-use Rattle.counting.specs.declared.Edited.the-variants.{Done, Refused}
-use Rattle.counting.specs.declared.Traced.the-variants.{Pairs}
-use Rattle.counting.specs.Calls.{Replaces, Adds, Erases, Traces}
+use Rattle.count_edits.specs.declared.Edited.{Edited}
+use Rattle.count_edits.specs.declared.Edited.the-variants.{Done, Refused}
+use Rattle.count_edits.specs.declared.Traced.the-variants.{Pairs}
+use Rattle.count_edits.specs.Calls.{Replaces, Adds, Erases, Traces}
 
 -- what a caller holds: the last record and count, the kept bases and the cells
 abbrev pub State : Type 0

@@ -1,12 +1,12 @@
--- `counting::traceback` meets its contract: what the row of checks leaves is what the walk asks. Assumes nothing.
+-- `count_edits::traceback` meets its contract: what the row of checks leaves is what the walk asks. Assumes nothing.
 use mathlib.Core.Path.{refl}
 use native.Mathlib.Omega.{arith}
 use borrow.Author.Needs.{needs}
 use borrow.Author.Tests.{lt-ltb, le-ltb}
-use Rattle.counting.specs.Checks.{traceDue}
-use Rattle.counting.proofs.Believable.{passed}
-use Rattle.counting.proofs.traceback.Statement.{statement}
-use Rattle.counting.proofs.traceback.Tie as tie
+use Rattle.count_edits.specs.Checks.{traceDue}
+use Rattle.count_edits.proofs.Believable.{passed}
+use Rattle.count_edits.proofs.traceback.Statement.{statement}
+use Rattle.count_edits.proofs.traceback.Tie as tie
 
 kept-checks-requires : tie.Need-kept-checks-requires
 kept-checks-requires c κs = search needs

@@ -20,7 +20,8 @@ use Rattle.cells.specs.Fill.{at, Fine}
 use Rattle.count_rule.specs.Rule.{Half}
 use Rattle.count_fill.specs.Believable.{allHalf}
 use Rattle.count_fill.proofs.Halves.{all-fine, fine-all}
-use Rattle.counting.specs.Checks.{noRoom, badLength, allKept, badContents, keptDue, replaceDue, addDue, eraseDue, traceDue}
+use Rattle.counting.specs.Checks.{noRoom}
+use Rattle.count_edits.specs.Checks.{badLength, allKept, badContents, keptDue, replaceDue, addDue, eraseDue, traceDue}
 
 -- there is room for n bases and their cells
 room : (b t : List ℕ) (n : ℕ) → noRoom b t n ≡ false → (n ≤ length b) × (tri n ≤ length t)

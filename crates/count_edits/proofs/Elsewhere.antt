@@ -10,13 +10,13 @@ use Rattle.cells.specs.Tri.{tri, place}
 use Rattle.edits.specs.Edits.{Edit, replace, add, erase, longest, Byte, Cell}
 use Rattle.edits.specs.Runs.{Run}
 use Rattle.edits.proofs.Elsewhere.{does-bytes, does-cells, run-bytes, run-cells}
 use Rattle.counting.specs.declared.Record.{Record}
 use Rattle.counting.specs.declared.Counted.the-variants.{Folded}
-use Rattle.counting.specs.declared.Edited.{Edited}
-use Rattle.counting.specs.declared.Edited.the-variants.{Done, Refused}
 use Rattle.counting.specs.Calls.{Folds}
-use Rattle.counting.specs.Histories.{State, state, Meets, Call}
-use Rattle.counting.proofs.Good.{counts, does, good-fold}
+use Rattle.count_edits.specs.declared.Edited.{Edited}
+use Rattle.count_edits.specs.declared.Edited.the-variants.{Done, Refused}
+use Rattle.count_edits.specs.Histories.{State, state, Meets, Call}
+use Rattle.count_edits.proofs.Good.{counts, does, good-fold}
 
 -- ---- one call, on any memory
 

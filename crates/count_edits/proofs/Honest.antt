@@ -14,19 +14,20 @@ use Rattle.structure.specs.Table.{view}
 use Rattle.cells.specs.Tri.{tri}
 use Rattle.cells.specs.Fill.{at}
 use Rattle.cells.proofs.Solves.{true-every}
-use Rattle.count_rule.specs.Rule.{nussinov, Half}
-use Rattle.count_rule.proofs.Laws.{nussinov-keeps}
+use Rattle.cells.proofs.Fills.{right-fine}
 use Rattle.edits.specs.Edits.{Edit, spelled}
 use Rattle.edits.specs.Runs.{Run}
 use Rattle.edits.specs.Kinds.{Good}
-use Rattle.cells.proofs.Fills.{right-fine}
+use Rattle.count_rule.specs.Rule.{nussinov, Half}
+use Rattle.count_rule.proofs.Laws.{nussinov-keeps}
 use Rattle.counting.specs.declared.Record.{Record}
 use Rattle.counting.specs.declared.Counted.the-variants.{Folded}
-use Rattle.counting.specs.Checks.{allKept, keptDue, traceDue, foldDue}
+use Rattle.counting.specs.Checks.{foldDue}
 use Rattle.counting.specs.Calls.{Folds}
-use Rattle.counting.specs.Histories.{State, state, Call}
-use Rattle.counting.proofs.Believable.{believed}
-use Rattle.counting.proofs.Good.{counts, good-accepted, good-run}
+use Rattle.count_edits.specs.Checks.{allKept, keptDue, traceDue}
+use Rattle.count_edits.specs.Histories.{State, state, Call}
+use Rattle.count_edits.proofs.Believable.{believed}
+use Rattle.count_edits.proofs.Good.{counts, good-accepted, good-run}
 
 -- nothing is due of a good state
 good-clear : (gap : ℕ) (q : List ℕ) (s : State) → Good counts gap q s → keptDue (s .kept .length) (s .bases) (s .cells) ≡ clear

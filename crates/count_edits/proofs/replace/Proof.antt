@@ -1,14 +1,14 @@
--- `counting::replace` meets its contract: each refusal is the first that the row finds, and the letter and the columns are written as it says. Assumes nothing.
+-- `count_edits::replace` meets its contract: each refusal is the first that the row finds, and the letter and the columns are written as it says. Assumes nothing.
 use mathlib.Core.Path.{refl, ap, _∙_}
 use native.Mathlib.Omega.{arith}
 use lib.ListN.{set, length-set}
 use borrow.Author.Needs.{needs}
 use borrow.Author.Tests.{le-leb, lt-leb}
 use Rattle.bases.proofs.Laws.{read-is, read-letter, read-none}
-use Rattle.counting.specs.Checks.{replaceDue}
-use Rattle.counting.proofs.Believable.{passed}
-use Rattle.counting.proofs.replace.Statement.{statement}
-use Rattle.counting.proofs.replace.Tie as tie
+use Rattle.count_edits.specs.Checks.{replaceDue}
+use Rattle.count_edits.proofs.Believable.{passed}
+use Rattle.count_edits.proofs.replace.Statement.{statement}
+use Rattle.count_edits.proofs.replace.Tie as tie
 
 kept-checks-requires : tie.Need-kept-checks-requires
 kept-checks-requires c κs = search needs

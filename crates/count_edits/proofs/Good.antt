@@ -17,21 +17,21 @@ use Rattle.sequences.specs.Sequences.{baseDue, basesDue}
 use Rattle.sequences.proofs.Letters.{letter-at}
 use Rattle.cells.specs.Tri.{tri}
 use Rattle.cells.proofs.Places.{tri-mono}
-use Rattle.count_rule.specs.Rule.{nussinov, Half}
-use Rattle.count_rule.proofs.Laws.{nussinov-local, nussinov-keeps}
 use Rattle.edits.specs.Edits.{Edit, replace, add, erase, spelled}
 use Rattle.edits.specs.Runs.{Holds, accepted, Run}
 use Rattle.edits.specs.Kinds.{Kind, Put, Good, Made, Does}
 use Rattle.edits.proofs.Histories.{good-letters, good-runs}
+use Rattle.count_rule.specs.Rule.{nussinov, Half}
+use Rattle.count_rule.proofs.Laws.{nussinov-local, nussinov-keeps}
 use Rattle.counting.specs.declared.Record.{Record}
 use Rattle.counting.specs.declared.Counted.the-variants.{Folded}
-use Rattle.counting.specs.declared.Edited.{Edited}
-use Rattle.counting.specs.declared.Edited.the-variants.{Done, Refused}
 use Rattle.counting.specs.Checks.{foldDue}
 use Rattle.counting.specs.Calls.{countOf, Folds}
-use Rattle.counting.specs.Histories.{State, state, Meets, outcome, Call}
 use Rattle.counting.proofs.Accepted.{foldable, accepted as allowed}
-use Rattle.counting.proofs.Believable.{replace-clear, add-clear, erase-clear}
+use Rattle.count_edits.specs.declared.Edited.{Edited}
+use Rattle.count_edits.specs.declared.Edited.the-variants.{Done, Refused}
+use Rattle.count_edits.specs.Histories.{State, state, Meets, outcome, Call}
+use Rattle.count_edits.proofs.Believable.{replace-clear, add-clear, erase-clear}
 
 -- ---- pair counting as a kind of fold with edits
 
