@@ -1,5 +1,4 @@
 -- Laws that belong to no one function.
-pub mod Searching
 pub mod Moving
 pub mod Reached
 pub mod Kept

@@ -7,23 +7,24 @@ use borrow.Author.Tests.{ltb-true}
 use lib.Dec.{ltb}
 use lib.IntN.{pos}
 use lib.Signed.{ltZ}
+use Rattle.cells.specs.Rule.{Bases}
 use Rattle.ints.specs.Ints.{mark, addE}
 use Rattle.ints.proofs.Ints.{either}
-use Rattle.cells.specs.Rule.{Bases}
 use Rattle.charges.specs.Loops.{mayClose, hairpinAt}
 use Rattle.charges.proofs.Openings.{close-far}
 use Rattle.energy_rule.specs.Rule.{Table, closingCharge, armCharge}
-use Rattle.energy_trace.specs.Choosing.{same, splitting, reaches, inside, orSplit, shorter, anyMove, armsMove, orArms, closedMove, moveOf}
+use Rattle.energy_reach.specs.Reach.{same, splitting, reaches, inside}
+use Rattle.energy_reach.specs.declared.Found.{Found}
+use Rattle.energy_reach.specs.declared.Found.the-variants.{At, Nothing}
+use Rattle.energy_reach.specs.declared.Within.{Within}
+use Rattle.energy_reach.specs.declared.Within.the-variants.{Pair, Nowhere}
+use Rattle.energy_reach.proofs.Searching.{splitting-in, inside-in}
+use Rattle.energy_trace.specs.Choosing.{orSplit, shorter, anyMove, armsMove, orArms, closedMove, moveOf}
 use Rattle.energy_trace.specs.Trace.{Spot}
 use Rattle.energy_trace.specs.declared.choice.Job.{Job}
 use Rattle.energy_trace.specs.declared.choice.Job.the-variants.{Any, Arms, Closed}
 use Rattle.energy_trace.specs.declared.choice.Move.{Move}
 use Rattle.energy_trace.specs.declared.choice.Move.the-variants.{Stop, Go, Close, Twice}
-use Rattle.energy_trace.specs.declared.search.Found.{Found}
-use Rattle.energy_trace.specs.declared.search.Found.the-variants.{At, Nothing}
-use Rattle.energy_trace.specs.declared.search.Within.{Within}
-use Rattle.energy_trace.specs.declared.search.Within.the-variants.{Pair, Nowhere}
-use Rattle.energy_trace.proofs.Searching.{splitting-in, inside-in}
 
 -- where a move from the span leads
 pub data Falls (n lo hi : ℕ) : Move → Type 0 where

@@ -12,14 +12,14 @@ use borrow.Author.Tests.{lt-ltb, le-ltb}
 use lib.IntN.{ℤ, pos, _+ℤ_}
 use lib.Signed.{leZ, ltZ, _<ℤ_}
 use lib.ListN.{length}
-use Rattle.ints.specs.Ints.{mark, addE}
-use Rattle.ints.proofs.Ints.{ints, either, le-yes, le-no, lt-no}
-use Rattle.ints.proofs.Minima.{add-some, add-real}
-use Rattle.cells.specs.Rule.{Bases, Right}
-use Rattle.cells.specs.Fill.{at}
 use Rattle.structure.specs.Table.{unpaired, view}
 use Rattle.tables.specs.Writing.{cleared, joined, Blank}
 use Rattle.tables.proofs.Written.{cleared-long, cleared-below, joined-long}
+use Rattle.cells.specs.Rule.{Bases, Right}
+use Rattle.cells.specs.Fill.{at}
+use Rattle.ints.specs.Ints.{mark, addE}
+use Rattle.ints.proofs.Ints.{ints, either, le-yes, le-no, lt-no}
+use Rattle.ints.proofs.Minima.{add-some, add-real}
 use Rattle.charges.specs.Figures.{longestSide}
 use Rattle.charges.specs.Loops.{Candidate, mayClose, own, hairpinAt}
 use Rattle.charges.proofs.Charges.{figure-low}
@@ -32,17 +32,18 @@ use Rattle.energy_rule.proofs.Parts.{lowest-is, may-far, Cut, Inner, inner-none
 use Rattle.energy_rule.proofs.Laws.{Ruled, right-ruled, real-may, v-real, v-step, hairpins, inners, branches, m-step, helix, m-skip, m-last, m-split, w-most, w-step, bare, pairs, w-skip, w-last, w-split}
 use Rattle.energy_rule.proofs.Steps.{any-bare, any-skip, any-last, any-pair, any-split, arms-skip, arms-last, arms-helix, arms-split, blank-joined, pair-hairpin, pair-inner, pair-arms}
 use Rattle.energy_rule.proofs.Built.{any-exact}
-use Rattle.energy_trace.specs.Choosing.{same, splitAt, splitting, reaches, innerRow, inside, orSplit, shorter, anyMove, armsMove, orArms, closedMove, moveOf}
+use Rattle.energy_reach.specs.Reach.{same, splitAt, splitting, reaches, innerRow, inside}
+use Rattle.energy_reach.specs.declared.Found.{Found}
+use Rattle.energy_reach.specs.declared.Found.the-variants.{At, Nothing}
+use Rattle.energy_reach.specs.declared.Within.{Within}
+use Rattle.energy_reach.specs.declared.Within.the-variants.{Pair, Nowhere}
+use Rattle.energy_reach.proofs.Searching.{Sought, hit, miss, sought, Scanned, hits, misses, scanned}
+use Rattle.energy_trace.specs.Choosing.{orSplit, shorter, anyMove, armsMove, orArms, closedMove, moveOf}
 use Rattle.energy_trace.specs.Trace.{act, traceOf, tracedOf}
-use Rattle.energy_trace.specs.declared.search.Found.{Found}
-use Rattle.energy_trace.specs.declared.search.Found.the-variants.{At, Nothing}
-use Rattle.energy_trace.specs.declared.search.Within.{Within}
-use Rattle.energy_trace.specs.declared.search.Within.the-variants.{Pair, Nowhere}
 use Rattle.energy_trace.specs.declared.choice.Job.{Job}
 use Rattle.energy_trace.specs.declared.choice.Job.the-variants.{Any, Arms, Closed}
 use Rattle.energy_trace.specs.declared.choice.Move.{Move}
 use Rattle.energy_trace.specs.declared.choice.Move.the-variants.{Stop, Go, Close, Twice}
-use Rattle.energy_trace.proofs.Searching.{Sought, hit, miss, sought, Scanned, hits, misses, scanned}
 
 -- ---- tests
 pub same-yes : (a b : ℤ) → same a b ≡ true → a ≡ b

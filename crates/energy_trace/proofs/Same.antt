@@ -10,25 +10,26 @@ use borrow.Author.Tests.{lt-ltb, le-ltb}
 use lib.IntN.{ℤ, pos}
 use lib.ListN.{length}
 use lib.Signed.{ltZ}
-use Rattle.ints.specs.Ints.{mark, addE}
-use Rattle.ints.proofs.Ints.{either}
-use Rattle.cells.specs.Rule.{Bases, SameBases}
-use Rattle.cells.specs.Fill.{at}
 use Rattle.structure.specs.Table.{view}
 use Rattle.tables.specs.Writing.{cleared}
 use Rattle.tables.proofs.Agreeing.{Agree, agree-joined, agree-cleared}
+use Rattle.cells.specs.Rule.{Bases, SameBases}
+use Rattle.cells.specs.Fill.{at}
+use Rattle.ints.specs.Ints.{mark, addE}
+use Rattle.ints.proofs.Ints.{either}
 use Rattle.charges.specs.Figures.{longestSide}
 use Rattle.charges.specs.Loops.{mayClose}
 use Rattle.energy_rule.specs.Rule.{Table, Cell, closingCharge, armCharge, innerAt, lowest}
 use Rattle.energy_rule.specs.Memory.{table, three}
 use Rattle.energy_rule.proofs.Parts.{lowest-is, may-far}
 use Rattle.energy_rule.proofs.Ruling.{may-local, own-local, hairpin-local}
-use Rattle.energy_trace.specs.Choosing.{same, firstOf, orElse, firstRow, splitAt, splitting, reaches, innerRow, inside, orSplit, shorter, anyMove, armsMove, orArms, closedMove, moveOf}
+use Rattle.energy_reach.specs.Reach.{same, firstOf, orElse, firstRow, splitAt, splitting, reaches, innerRow, inside}
+use Rattle.energy_reach.specs.declared.Found.{Found}
+use Rattle.energy_reach.specs.declared.Found.the-variants.{At}
+use Rattle.energy_reach.specs.declared.Within.{Within}
+use Rattle.energy_reach.specs.declared.Within.the-variants.{Pair, Nowhere}
+use Rattle.energy_trace.specs.Choosing.{orSplit, shorter, anyMove, armsMove, orArms, closedMove, moveOf}
 use Rattle.energy_trace.specs.Trace.{act, traceOf, tracedOf, Spot}
-use Rattle.energy_trace.specs.declared.search.Found.{Found}
-use Rattle.energy_trace.specs.declared.search.Found.the-variants.{At}
-use Rattle.energy_trace.specs.declared.search.Within.{Within}
-use Rattle.energy_trace.specs.declared.search.Within.the-variants.{Pair, Nowhere}
 use Rattle.energy_trace.specs.declared.choice.Job.{Job}
 use Rattle.energy_trace.specs.declared.choice.Job.the-variants.{Any, Arms, Closed}
 use Rattle.energy_trace.specs.declared.choice.Move.{Move}

@@ -1,63 +1,23 @@
 -- What a traceback takes at a span: the first, in the original's order, of what reaches the cell's value. v, w and m are the cells with i and j
 -- paired, of any structure, and as arms. Spans are from lo up to, but not including, hi. Assumes nothing: these are definitions.
-use mathlib.Core.Bool.{Bool, cond, _&&_}
-use Prim.Native.Nat.{ℕ, zero, suc, _+_, _-_, min}
+use mathlib.Core.Bool.{cond}
+use Prim.Native.Nat.{ℕ, _+_, _-_}
 use lib.Dec.{ltb}
-use lib.IntN.{ℤ, pos}
-use lib.Signed.{leZ, ltZ}
-use Rattle.ints.specs.Ints.{mark, addE}
+use lib.IntN.{pos}
+use lib.Signed.{ltZ}
 use Rattle.cells.specs.Rule.{Bases}
-use Rattle.charges.specs.Figures.{longestSide}
+use Rattle.ints.specs.Ints.{mark, addE}
 use Rattle.charges.specs.Loops.{mayClose, hairpinAt}
-use Rattle.energy_rule.specs.Rule.{Table, closingCharge, armCharge, innerAt, lowest}
-use Rattle.energy_trace.specs.declared.search.Found.{Found}
-use Rattle.energy_trace.specs.declared.search.Found.the-variants.{At, Nothing}
-use Rattle.energy_trace.specs.declared.search.Within.{Within}
-use Rattle.energy_trace.specs.declared.search.Within.the-variants.{Pair, Nowhere}
+use Rattle.energy_rule.specs.Rule.{Table, closingCharge, armCharge}
+use Rattle.energy_reach.specs.Reach.{same, splitting, reaches, inside}
+use Rattle.energy_reach.specs.declared.Found.{Found}
+use Rattle.energy_reach.specs.declared.Found.the-variants.{At, Nothing}
+use Rattle.energy_reach.specs.declared.Within.{Within}
+use Rattle.energy_reach.specs.declared.Within.the-variants.{Pair, Nowhere}
 use Rattle.energy_trace.specs.declared.choice.Job.{Job}
 use Rattle.energy_trace.specs.declared.choice.Job.the-variants.{Any, Arms, Closed}
 use Rattle.energy_trace.specs.declared.choice.Move.{Move}
 use Rattle.energy_trace.specs.declared.choice.Move.the-variants.{Stop, Go, Close, Twice}
-
--- two numbers are equal
-unfoldable pub same : ℤ → ℤ → Bool
-same a b = leZ a b && leZ b a
-
--- ---- searches
--- the first of n numbers from k on that passes the test
-unfoldable pub firstOf : (ℕ → Bool) → ℕ → ℕ → Found
-firstOf test k zero = Nothing
-firstOf test k (suc n) = cond (test k) (At k) (firstOf test (k + 1) n)
-
--- what was found from x, or what is found later
-abbrev pub orElse : ℕ → Found → Within → Within
-orElse x (At y) later = Pair x y
-orElse x Nothing later = later
-
--- the first of n numbers from k on whose row finds something, with what it finds
-unfoldable pub firstRow : (ℕ → Found) → ℕ → ℕ → Within
-firstRow row k zero = Nowhere
-firstRow row k (suc n) = orElse k (row k) (firstRow row (k + 1) n)
-
--- a split after k reaches the cell (i, j)
-unfoldable pub splitAt : Table → ℕ → ℕ → ℕ → Bool
-splitAt c i j k = same (addE (c i k) (c (k + 1) j)) (c i j)
-
--- the smallest k from i + 1 to j − 1 after which one does
-unfoldable pub splitting : Table → ℕ → ℕ → Found
-splitting c i j = firstOf (splitAt c i j) (i + 1) (j - (i + 1))
-
--- the inner pair (x, y) reaches the cell (i, j)
-unfoldable pub reaches : Bases → Table → ℕ → ℕ → ℕ → ℕ → Bool
-reaches b v i j x y = same (innerAt b v i j x y) (v i j)
-
--- the first closing place of an inner pair from x that does
-unfoldable pub innerRow : Bases → Table → ℕ → ℕ → ℕ → Found
-innerRow b v i j x = firstOf (reaches b v i j x) (lowest j x) (j - lowest j x)
-
--- the first inner pair that does, by its opening and then by its closing place
-unfoldable pub inside : Bases → Table → ℕ → ℕ → Within
-inside b v i j = firstRow (innerRow b v i j) (i + 1) (min (suc longestSide) (j - (i + 1)))
 
 -- ---- a span, of any structure or of arms
 -- its two parts; where there is no split, no choice is left

@@ -1,15 +1,11 @@
 -- What the tracebacks write into a pair table o, and what they ask of lent memory. Assumes nothing: these are definitions.
 use mathlib.Core.Path.{_≡_}
 use mathlib.Core.List.{List}
-use Prim.Native.Nat.{ℕ, zero, suc, _+_, _-_, _≤_, _<_}
+use Prim.Native.Nat.{ℕ, zero, suc, _-_, _≤_, _<_}
 use lib.IntN.{ℤ}
-use lib.ListN.{length}
-use Rattle.ints.specs.Ints.{Small}
-use Rattle.cells.specs.Tri.{tri}
-use Rattle.cells.specs.Fill.{at, Fine}
 use Rattle.structure.specs.Table.{view}
 use Rattle.tables.specs.Writing.{cleared, joined}
-use Rattle.charges.specs.Figures.{longest}
+use Rattle.cells.specs.Fill.{at, Fine}
 use Rattle.energy_rule.specs.Bounds.{Ranged}
 use Rattle.energy_rule.specs.Memory.{table, three, Room}
 use Rattle.energy_trace.specs.Choosing.{moveOf}
@@ -39,12 +35,6 @@ abbrev pub Spot : Job → ℕ → ℕ → ℕ → Type 0
 Spot Any lo hi n = (lo < hi) × (hi ≤ n)
 Spot Arms lo hi n = (lo < hi) × (hi ≤ n)
 Spot Closed i j n = (i < j) × (j < n)
-
--- one table: the cells up to column j can be read, and may stand in sums
-pub record Ready (t : List ℤ) (j : ℕ) : Type 0 where
-  pub short : j < longest + 2
-  pub long : tri (j + 1) ≤ length t
-  pub small : (k l : ℕ) → k ≤ l → l ≤ j → Small (table t k l)
 
 -- what the tracebacks of n bases ask of bases and tables: room, and cells in range, be they right or wrong
 pub record Traceable (b : List ℕ) (v w m : List ℤ) (n : ℕ) : Type 0 where

@@ -1,16 +1,15 @@
 // What a traceback takes at a span: the first, in the original's order, of what reaches the cell's value.
-use crate::reach;
-use crate::search;
-use crate::search::Found;
-use crate::search::Within;
+use energy_reach::Found;
+use energy_reach::Within;
 ghost use mathlib.Core.Path.{_≡_};
 ghost use Prim.Native.Nat.{_+_, _-_, _<_};
 ghost use lib.ListN.{length};
 ghost use Rattle.structure.specs.Table.{view};
 ghost use Rattle.energy_rule.specs.Memory.{table};
+ghost use Rattle.energy_reach.specs.Reach.{Ready};
+ghost use Rattle.energy_reach.specs.declared.Within.the-variants.{Nowhere};
 ghost use Rattle.energy_trace.specs.Choosing.{shorter, anyMove, armsMove, orArms, closedMove, moveOf};
-ghost use Rattle.energy_trace.specs.Trace.{Spot, Ready, Traceable};
-ghost use Rattle.energy_trace.specs.declared.search.Within.the-variants.{Nowhere};
+ghost use Rattle.energy_trace.specs.Trace.{Spot, Traceable};
 
 // What a traceback is of: any structure of a span, arms of a span, or the inside of a pair.
 pub enum Job {
@@ -57,10 +56,10 @@ fn any_move(paired: &[i32], any: &[i32], lo: usize, hi: usize) -> Move
         return Move::Stop;
     }
     let last = hi - 1;
-    if reach::none(any, lo, last) {
+    if energy_reach::none(any, lo, last) {
         return Move::Stop;
     }
-    if reach::alike(paired, lo, last, any, lo, last) {
+    if energy_reach::alike(paired, lo, last, any, lo, last) {
         return Move::Close(lo, last);
     }
     shorter(Job::Any, any, lo, hi)
@@ -75,10 +74,10 @@ fn arms_move(paired: &[i32], arms: &[i32], lo: usize, hi: usize) -> Move
         return Move::Stop;
     }
     let last = hi - 1;
-    if !reach::real(arms, lo, last) {
+    if !energy_reach::real(arms, lo, last) {
         return Move::Stop;
     }
-    if reach::arm(paired, arms, lo, last) {
+    if energy_reach::arm(paired, arms, lo, last) {
         return Move::Close(lo, last);
     }
     shorter(Job::Arms, arms, lo, hi)
@@ -92,13 +91,13 @@ fn shorter(job: Job, cells: &[i32], lo: usize, hi: usize) -> Move
     let last = hi - 1;
     let second = lo + 1;
     let before = last - 1;
-    if reach::alike(cells, second, last, cells, lo, last) {
+    if energy_reach::alike(cells, second, last, cells, lo, last) {
         return Move::Go(job, second, hi);
     }
-    if reach::alike(cells, lo, before, cells, lo, last) {
+    if energy_reach::alike(cells, lo, before, cells, lo, last) {
         return Move::Go(job, lo, last);
     }
-    match search::splitting(cells, lo, last) {
+    match energy_reach::splitting(cells, lo, last) {
         Found::At(k) => Move::Twice(job, lo, k + 1, hi),
         Found::Nothing => Move::Stop,
     }
@@ -112,16 +111,16 @@ fn closed_move(bases: &[u8], paired: &[i32], arms: &[i32], i: usize, j: usize) -
     if !charges::may_close(bases, i, j) {
         return Move::Stop;
     }
-    if !reach::real(paired, i, j) {
+    if !energy_reach::real(paired, i, j) {
         return Move::Stop;
     }
-    if reach::hairpin(bases, paired, i, j) {
+    if energy_reach::hairpin(bases, paired, i, j) {
         return Move::Stop;
     }
-    if reach::inner(bases, paired, i, j, i + 1, j - 1) {
+    if energy_reach::inner(bases, paired, i, j, i + 1, j - 1) {
         return Move::Close(i + 1, j - 1);
     }
-    match search::inside(bases, paired, i, j) {
+    match energy_reach::inside(bases, paired, i, j) {
         Within::Pair(x, y) => Move::Close(x, y),
         Within::Nowhere => around(paired, arms, i, j),
     }
@@ -132,7 +131,7 @@ fn around(paired: &[i32], arms: &[i32], i: usize, j: usize) -> Move
     requires { ⌜ (i + 1 < j) × Ready (now paired) j × Ready (now arms) j ⌝ }
     ensures { λ r. ⌜ r ≡ orArms (table (now (paired .entry))) (table (now (arms .entry))) i j Nowhere ⌝ }
 {
-    if reach::many(paired, arms, i, j) {
+    if energy_reach::many(paired, arms, i, j) {
         return Move::Go(Job::Arms, i + 1, j);
     }
     Move::Stop

@@ -11,8 +11,6 @@ use crate::choice::Move;
 use crate::choice::choose;
 
 mod choice;
-mod reach;
-mod search;
 
 // Writes the structure of the first n bases; what stands after them is left.
 pub fn traceback(

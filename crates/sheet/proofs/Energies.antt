@@ -23,7 +23,7 @@ use Rattle.ints.proofs.Ints.{either}
 use Rattle.energy_rule.specs.Rule.{Cell, energies}
 use Rattle.energy_rule.specs.Memory.{three}
 use Rattle.energy_rule.proofs.Ruling.{triple, energies-local}
-use Rattle.energy_trace.specs.Choosing.{same}
+use Rattle.energy_reach.specs.Reach.{same}
 use Rattle.energy_trace.specs.Trace.{tracedOf}
 use Rattle.energy_trace.proofs.Kept.{traced-long}
 use Rattle.energy_trace.proofs.Reached.{same-yes}

@@ -17,7 +17,8 @@ use Rattle.charges.specs.Figures as fig
 use Rattle.charges.specs.Charge.{hairpin, mismatch, bulge, internal, stack, long, sized, hairpinOf, stackAt, bulgeOf, slant, internalOf, manyOf}
 use Rattle.charges.specs.Loops.{mayClose, arms, first, between, own, single, kindBy, kind, purines, hairpinAt, chargeBy, chargeAt, total}
 use Rattle.energy_rule.specs.Rule.{innerAt, lowest, innerFrom, interior, paired, splits, any, armed, energies}
-use Rattle.energy_trace.specs.Choosing.{same, firstOf, firstRow, splitAt, splitting, reaches, innerRow, inside, shorter, anyMove, armsMove, closedMove, moveOf}
+use Rattle.energy_reach.specs.Reach.{same, firstOf, firstRow, splitAt, splitting, reaches, innerRow, inside}
+use Rattle.energy_trace.specs.Choosing.{shorter, anyMove, armsMove, closedMove, moveOf}
 use Rattle.energy_trace.specs.Trace.{traceOf, tracedOf}
 use Rattle.energy.specs.Calls.{energyAt}
 use Rattle.sheet.specs.Lines.{Says, energy, charged}

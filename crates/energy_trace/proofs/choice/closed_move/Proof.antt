@@ -10,7 +10,8 @@ use Rattle.structure.specs.Table.{view}
 use Rattle.charges.specs.Loops.{mayClose}
 use Rattle.charges.proofs.Openings.{close-far}
 use Rattle.energy_rule.specs.Memory.{table}
-use Rattle.energy_trace.specs.Choosing.{inside, orArms, closedMove}
+use Rattle.energy_reach.specs.Reach.{inside}
+use Rattle.energy_trace.specs.Choosing.{orArms, closedMove}
 use Rattle.energy_trace.proofs.choice.closed_move.Statement.{statement}
 use Rattle.energy_trace.proofs.choice.closed_move.Tie as tie
 

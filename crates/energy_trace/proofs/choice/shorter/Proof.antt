@@ -5,9 +5,9 @@ use native.Mathlib.Omega.{arith}
 use borrow.Author.Needs.{needs}
 use Rattle.charges.proofs.Charges.{longest-low}
 use Rattle.energy_rule.specs.Memory.{table}
+use Rattle.energy_reach.proofs.Readiness.{ready-less}
+use Rattle.energy_reach.proofs.Searching.{splitting-in}
 use Rattle.energy_trace.specs.Choosing.{shorter}
-use Rattle.energy_trace.proofs.Readiness.{ready-less}
-use Rattle.energy_trace.proofs.Searching.{splitting-in}
 use Rattle.energy_trace.proofs.choice.shorter.Statement.{statement}
 use Rattle.energy_trace.proofs.choice.shorter.Tie as tie
 

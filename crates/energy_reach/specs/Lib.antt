@@ -1,0 +1,2 @@
+-- What the contracts of `energy_reach` cite.
+pub mod Reach
