@@ -13,7 +13,7 @@ use Rattle.refusals.specs.Refusals.{clear, check, then, foldLimit}
 use Rattle.refusals.specs.declared.Place.the-variants.{Nowhere}
 use Rattle.refusals.proofs.Laws.{check-clear, then-clear, neither}
 use Rattle.cells.specs.Tri.{tri}
-use Rattle.charges.proofs.Charges.{fold-reach}
+use Rattle.figures.proofs.Charges.{fold-reach}
 use Rattle.energy_rule.specs.Memory.{Room}
 use Rattle.sequences.specs.Sequences.{basesDue}
 use Rattle.energy.specs.Checks.{noRoom, foldDue}

@@ -14,7 +14,7 @@ use Rattle.cells.specs.Pass.{gather, parts, Raised, Taken}
 use Rattle.cells.proofs.Places.{less-or, three, tri-below}
 use Rattle.cells.proofs.Passes.{gather-front, tri-back}
 use Rattle.cells.proofs.Fills.{Put}
-use Rattle.charges.specs.Figures.{longestSide}
+use Rattle.figures.specs.Figures.{longestSide}
 use Rattle.charges.specs.Loops.{mayClose, hairpinAt}
 use Rattle.energy_rule.specs.Rule.{Table, closingCharge, armCharge, innerAt, lowest, innerFrom, interior, paired, splits, any, armed}
 use Rattle.energy_rule.specs.Bounds.{floor}

@@ -14,7 +14,7 @@ use Rattle.cells.specs.Fill.{at, Fine, FineFrom, Rows}
 use Rattle.cells.specs.Pass.{parts, Settled}
 use Rattle.cells.proofs.Places.{less-or, three, tri-below}
 use Rattle.cells.proofs.Passes.{gather-none, settled-value}
-use Rattle.charges.specs.Figures.{longest}
+use Rattle.figures.specs.Figures.{longest}
 use Rattle.charges.specs.Loops.{mayClose}
 use Rattle.energy_rule.specs.Rule.{Table, Cell, armCharge, paired, any, armed, energies, pairedOf, armsOf}
 use Rattle.energy_rule.specs.Bounds.{Ranged}

@@ -13,12 +13,12 @@ use Rattle.cells.specs.Rule.{Bases}
 use Rattle.cells.specs.Fill.{at, Fine}
 use Rattle.cells.proofs.Places.{tri-below}
 use Rattle.cells.proofs.Passes.{tri-back}
-use Rattle.charges.specs.Figures.{smallestHairpin, longestSide, longest}
+use Rattle.figures.specs.Figures.{smallestHairpin, longestSide, longest}
+use Rattle.figures.specs.Sides.{sideCount, sideCharge, Sides}
+use Rattle.figures.proofs.Charges.{figure-low, longest-low}
+use Rattle.figures.proofs.Flanks.{side-in}
 use Rattle.charges.specs.Loops.{mayClose, own}
-use Rattle.charges.specs.Sides.{sideCount, sideCharge, Sides}
-use Rattle.charges.proofs.Charges.{figure-low, longest-low}
-use Rattle.charges.proofs.Charged.{own-in}
-use Rattle.charges.proofs.Flanks.{own-side, side-in}
+use Rattle.charges.proofs.Charged.{own-in, own-side}
 use Rattle.energy_rule.specs.Rule.{Table, innerAt, interior}
 use Rattle.energy_rule.specs.Memory.{nums}
 use Rattle.energy_rule.proofs.Parts.{interior-le, interior-real}

@@ -9,7 +9,7 @@ use lib.Signed.{_≤ℤ_, _<ℤ_}
 use Rattle.cells.specs.Tri.{tri, place}
 use Rattle.cells.specs.Rule.{Bases}
 use Rattle.cells.specs.Fill.{at, Fine}
-use Rattle.charges.specs.Figures.{smallestHairpin, longestSide, longest}
+use Rattle.figures.specs.Figures.{smallestHairpin, longestSide, longest}
 use Rattle.charges.specs.Loops.{mayClose}
 use Rattle.energy_rule.specs.Bounds.{floor}
 use Rattle.energy_rule.specs.Memory.{nums}

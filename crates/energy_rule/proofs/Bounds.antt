@@ -11,10 +11,10 @@ use Rattle.ints.proofs.Ints.{ints, sum, either}
 use Rattle.ints.proofs.Minima.{less}
 use Rattle.cells.specs.Rule.{Bases, Cells, Right}
 use Rattle.cells.proofs.Fills.{right-fine}
-use Rattle.charges.specs.Figures.{arm}
-use Rattle.charges.specs.Charge.{figureMost}
+use Rattle.figures.specs.Figures.{arm}
+use Rattle.figures.specs.Charge.{figureMost}
+use Rattle.figures.proofs.Charges.{figure-low}
 use Rattle.charges.specs.Loops.{mayClose}
-use Rattle.charges.proofs.Charges.{figure-low}
 use Rattle.energy_rule.specs.Rule.{Table, Cell, armCharge, energies, pairedOf, anyOf, armsOf}
 use Rattle.energy_rule.specs.Bounds.{Ranged, Believable}
 use Rattle.energy_rule.proofs.Ruling.{floor-is, energies-keeps}

@@ -6,7 +6,7 @@ use lib.IntN.{ℤ, pos, _+ℤ_, _-ℤ_}
 use lib.Signed.{_≤ℤ_}
 use Rattle.ints.specs.Ints.{mark}
 use Rattle.cells.specs.Rule.{Bases}
-use Rattle.charges.specs.Figures.{arm}
+use Rattle.figures.specs.Figures.{arm}
 use Rattle.charges.specs.Loops.{Candidate, armsIn, total}
 use Rattle.energy_rule.specs.Rule.{Cell}
 

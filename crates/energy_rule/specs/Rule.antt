@@ -6,7 +6,7 @@ use lib.Dec.{ltb}
 use lib.IntN.{ℤ, pos}
 use Rattle.ints.specs.Ints.{minℤ, mark, addE, minFrom}
 use Rattle.cells.specs.Rule.{Bases, Cells, Rule}
-use Rattle.charges.specs.Figures.{smallestHairpin, longestSide, closing, arm}
+use Rattle.figures.specs.Figures.{smallestHairpin, longestSide, closing, arm}
 use Rattle.charges.specs.Loops.{mayClose, own, hairpinAt}
 
 -- one table's cells

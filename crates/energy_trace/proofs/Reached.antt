@@ -20,9 +20,9 @@ use Rattle.cells.specs.Fill.{at}
 use Rattle.structure.specs.Table.{unpaired, view}
 use Rattle.tables.specs.Writing.{cleared, joined, Blank}
 use Rattle.tables.proofs.Written.{cleared-long, cleared-below, joined-long}
-use Rattle.charges.specs.Figures.{longestSide}
+use Rattle.figures.specs.Figures.{longestSide}
+use Rattle.figures.proofs.Charges.{figure-low}
 use Rattle.charges.specs.Loops.{Candidate, mayClose, own, hairpinAt}
-use Rattle.charges.proofs.Charges.{figure-low}
 use Rattle.charges.proofs.Charged.{own-in}
 use Rattle.energy_rule.specs.Rule.{Table, closingCharge, armCharge, innerAt, lowest, energies}
 use Rattle.energy_rule.specs.Meaning.{energyIn}

@@ -9,8 +9,8 @@ use lib.ListN.{length}
 use Rattle.cells.specs.Tri.{tri, place}
 use Rattle.cells.proofs.Places.{place-below, tri-mono}
 use Rattle.structure.specs.Table.{view}
-use Rattle.charges.specs.Figures.{longest}
-use Rattle.charges.proofs.Charges.{longest-low}
+use Rattle.figures.specs.Figures.{longest}
+use Rattle.figures.proofs.Charges.{longest-low}
 use Rattle.energy_rule.proofs.Ruling.{ranged-small}
 use Rattle.energy_trace.specs.Trace.{Ready, Traceable}
 

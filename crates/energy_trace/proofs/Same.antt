@@ -17,7 +17,7 @@ use Rattle.cells.specs.Fill.{at}
 use Rattle.structure.specs.Table.{view}
 use Rattle.tables.specs.Writing.{cleared}
 use Rattle.tables.proofs.Agreeing.{Agree, agree-joined, agree-cleared}
-use Rattle.charges.specs.Figures.{longestSide}
+use Rattle.figures.specs.Figures.{longestSide}
 use Rattle.charges.specs.Loops.{mayClose}
 use Rattle.energy_rule.specs.Rule.{Table, Cell, closingCharge, armCharge, innerAt, lowest}
 use Rattle.energy_rule.specs.Memory.{table, three}

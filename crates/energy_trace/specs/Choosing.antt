@@ -7,7 +7,7 @@ use lib.IntN.{ℤ, pos}
 use lib.Signed.{leZ, ltZ}
 use Rattle.ints.specs.Ints.{mark, addE}
 use Rattle.cells.specs.Rule.{Bases}
-use Rattle.charges.specs.Figures.{longestSide}
+use Rattle.figures.specs.Figures.{longestSide}
 use Rattle.charges.specs.Loops.{mayClose, hairpinAt}
 use Rattle.energy_rule.specs.Rule.{Table, closingCharge, armCharge, innerAt, lowest}
 use Rattle.energy_trace.specs.declared.search.Found.{Found}

@@ -9,7 +9,7 @@ use Rattle.cells.specs.Tri.{tri}
 use Rattle.cells.specs.Fill.{at, Fine}
 use Rattle.structure.specs.Table.{view}
 use Rattle.tables.specs.Writing.{cleared, joined}
-use Rattle.charges.specs.Figures.{longest}
+use Rattle.figures.specs.Figures.{longest}
 use Rattle.energy_rule.specs.Bounds.{Ranged}
 use Rattle.energy_rule.specs.Memory.{table, three, Room}
 use Rattle.energy_trace.specs.Choosing.{moveOf}

@@ -1,6 +1,6 @@
 // Whether a candidate reaches the value of a cell.
-use charges::ARM;
-use charges::CLOSING;
+use figures::ARM;
+use figures::CLOSING;
 use ints::MARK;
 ghost use mathlib.Core.Path.{_≡_};
 ghost use mathlib.Core.Bool.{true};
@@ -10,7 +10,7 @@ ghost use lib.ListN.{length};
 ghost use lib.Signed.{ltZ};
 ghost use Rattle.ints.specs.Ints.{mark, addE, Small};
 ghost use Rattle.structure.specs.Table.{view};
-ghost use Rattle.charges.specs.Figures.{longestSide};
+ghost use Rattle.figures.specs.Figures.{longestSide};
 ghost use Rattle.charges.specs.Loops.{mayClose, hairpinAt};
 ghost use Rattle.energy_rule.specs.Rule.{closingCharge, armCharge, innerAt};
 ghost use Rattle.energy_rule.specs.Memory.{table};

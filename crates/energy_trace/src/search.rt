@@ -1,13 +1,13 @@
 // Searches for the first candidate that reaches the value of the cell (i, j).
 use crate::reach;
-use charges::LONGEST_SIDE;
-use charges::SMALLEST_HAIRPIN;
+use figures::LONGEST_SIDE;
+use figures::SMALLEST_HAIRPIN;
 ghost use mathlib.Core.Path.{_≡_};
 ghost use mathlib.Core.Bool.{true};
 ghost use Prim.Native.Nat.{suc, _+_, _-_, _≤_, _<_};
 ghost use lib.ListN.{length};
 ghost use Rattle.structure.specs.Table.{view};
-ghost use Rattle.charges.specs.Figures.{longest, longestSide};
+ghost use Rattle.figures.specs.Figures.{longest, longestSide};
 ghost use Rattle.charges.specs.Loops.{mayClose};
 ghost use Rattle.energy_rule.specs.Rule.{lowest};
 ghost use Rattle.energy_rule.specs.Memory.{table};

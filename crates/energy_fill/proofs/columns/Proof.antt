@@ -6,7 +6,7 @@ use lib.ListN.{length}
 use Rattle.cells.specs.Fill.{Columns}
 use Rattle.cells.proofs.Fills.{columns-none, columns-fine, columns-more}
 use Rattle.cells.proofs.Places.{tri-mono}
-use Rattle.charges.proofs.Charges.{longest-low}
+use Rattle.figures.proofs.Charges.{longest-low}
 use Rattle.energy_rule.specs.Memory.{three}
 use Rattle.energy_rule.specs.Bounds.{Ranged}
 use Rattle.energy_rule.specs.Rule.{energies}

@@ -6,7 +6,7 @@ use native.Mathlib.Omega.{arith}
 use borrow.Author.Needs.{needs}
 use borrow.Fn.Kinds.{In}
 use borrow.Fn.PlainCycle.{Measures, is, falls, and}
-use Rattle.charges.proofs.Charges.{longest-low}
+use Rattle.figures.proofs.Charges.{longest-low}
 use Rattle.energy_trace.proofs.Moving.{Falls, move-falls, falls-go, falls-close, falls-twice}
 use Rattle.energy_trace.proofs.Tracing.{traced-stop, traced-go, traced-close, traced-twice}
 use Rattle.energy_trace.proofs.trace.Reads as trace

@@ -7,9 +7,9 @@ use borrow.Author.Tests.{not-true, not-false}
 use borrow.Author.Needs.{needs}
 use denote.Ref.{now}
 use Rattle.cells.proofs.Places.{place-below}
+use Rattle.figures.specs.Figures.{smallestHairpin}
+use Rattle.figures.proofs.Charges.{longest-low}
 use Rattle.charges.specs.Loops.{mayClose}
-use Rattle.charges.specs.Figures.{smallestHairpin}
-use Rattle.charges.proofs.Charges.{longest-low}
 use Rattle.energy_rule.specs.Memory.{nums, table}
 use Rattle.energy_rule.specs.Rule.{closingCharge}
 use Rattle.energy_rule.proofs.Ruling.{paired-none}

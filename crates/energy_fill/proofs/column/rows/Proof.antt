@@ -2,7 +2,7 @@
 use native.Mathlib.Omega.{arith}
 use borrow.Author.Needs.{needs}
 use Rattle.cells.proofs.Places.{tri-step}
-use Rattle.charges.proofs.Charges.{longest-low}
+use Rattle.figures.proofs.Charges.{longest-low}
 use Rattle.energy_rule.specs.Memory.{nums}
 use Rattle.ints.proofs.Ints.{ints}
 use Rattle.structure.specs.Table.{view}

@@ -4,8 +4,8 @@ use Prim.Native.Nat.{_+_, _<_}
 use native.Mathlib.Omega.{arith}
 use borrow.Author.Needs.{needs}
 use denote.Ref.{now}
-use Rattle.charges.specs.Figures.{smallestHairpin}
-use Rattle.charges.proofs.Charges.{longest-low}
+use Rattle.figures.specs.Figures.{smallestHairpin}
+use Rattle.figures.proofs.Charges.{longest-low}
 use Rattle.energy_rule.specs.Memory.{nums}
 use Rattle.energy_rule.proofs.Parts.{may-far}
 use Rattle.ints.specs.Ints.{minℤ}

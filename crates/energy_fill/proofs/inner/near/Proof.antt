@@ -5,8 +5,8 @@ use native.Mathlib.Omega.{arith}
 use mir.Val.{toZ}
 use mir.Syntax.{w32}
 use Rattle.cells.specs.Tri.{place}
-use Rattle.charges.specs.Figures.{longestSide}
-use Rattle.charges.proofs.Charges.{longest-low}
+use Rattle.figures.specs.Figures.{longestSide}
+use Rattle.figures.proofs.Charges.{longest-low}
 use Rattle.energy_rule.specs.Memory.{nums}
 use Rattle.ints.specs.Ints.{minFrom}
 use Rattle.ints.proofs.Ints.{plain}

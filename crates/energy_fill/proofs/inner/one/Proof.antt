@@ -5,9 +5,9 @@ use borrow.Author.Tests.{not-true, not-false}
 use borrow.Author.Needs.{needs}
 use denote.Ref.{now}
 use Rattle.cells.proofs.Places.{place-below}
+use Rattle.figures.proofs.Charges.{figure-low, longest-low}
 use Rattle.charges.proofs.Openings.{close-pair}
 use Rattle.charges.proofs.Charged.{own-in}
-use Rattle.charges.proofs.Charges.{figure-low, longest-low}
 use Rattle.energy_rule.specs.Memory.{nums, table}
 use Rattle.ints.proofs.Ints.{ints, plain, back}
 use Rattle.structure.specs.Table.{view}

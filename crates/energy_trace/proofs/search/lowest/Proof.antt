@@ -1,7 +1,7 @@
 -- `energy_trace::search::lowest` meets its contract: of the two bounds the larger, told apart by a sum. Assumes nothing.
 use native.Mathlib.Omega.{arith}
 use borrow.Author.Needs.{needs}
-use Rattle.charges.proofs.Charges.{longest-low}
+use Rattle.figures.proofs.Charges.{longest-low}
 use Rattle.energy_rule.proofs.Parts.{lowest-is}
 use Rattle.energy_trace.proofs.search.lowest.Statement.{statement}
 use Rattle.energy_trace.proofs.search.lowest.Tie as tie
