@@ -13,12 +13,14 @@ use borrow.Author.Tests.{le-leb, lt-leb}
 use Rattle.bases.specs.Bases.{pairIndex}
 use Rattle.ints.specs.Ints.{In}
 use Rattle.ints.proofs.Ints.{ints, either, le-yes, le-no}
-use Rattle.charges.specs.Figures.{longestSide}
-use Rattle.charges.specs.Charge.{hairpinOf, manyOf, chargeOf, figureMost}
-use Rattle.charges.specs.Loops.{armsIn, firstIn, between, own, single, kindBy, kind, purines, hairpinAt, chargeBy, chargeAt}
-use Rattle.charges.specs.declared.Loop.{Loop}
-use Rattle.charges.specs.declared.Loop.the-variants.{Hairpin, Many}
-use Rattle.charges.proofs.Charges.{stackAt-in, bulgeOf-in, internalOf-in, hairpinOf-in}
+use Rattle.figures.specs.Figures.{longestSide}
+use Rattle.figures.specs.Charge.{hairpinOf, manyOf, between, chargeOf, figureMost}
+use Rattle.figures.specs.Sides.{sideCharge}
+use Rattle.figures.specs.declared.Loop.{Loop}
+use Rattle.figures.specs.declared.Loop.the-variants.{Hairpin, Many}
+use Rattle.figures.proofs.Charges.{stackAt-in, bulgeOf-in, internalOf-in, hairpinOf-in}
+use Rattle.figures.proofs.Flanks.{side-any}
+use Rattle.charges.specs.Loops.{armsIn, firstIn, own, single, kindBy, kind, purines, hairpinAt, chargeBy, chargeAt}
 
 -- a loop with one inner pair asks for no bases of a hairpin
 between-any : (l r o i p : ℕ) → chargeOf (between l r) o i p ≡ chargeOf (between l r) o i 0
@@ -27,6 +29,11 @@ between-any l r o i p =
     either (eqb l 0)
     (λ e. either (eqb r 0) (λ q. rw (e, q)) (λ q. rw (e, q)))
     (λ e. either (eqb r 0) (λ q. rw (e, q)) (λ q. rw (e, q)))
+
+-- with two bases or more between the pairs, its own figure is that of the sides
+pub own-side : (b : ℕ → ℕ) (i j x y : ℕ) → 2 ≤ (x - suc i) + (j - suc y) → own b i j x y ≡ sideCharge (x - suc i) (j - suc y)
+unfolding own
+own-side b i j x y h = side-any (x - suc i) (j - suc y) (pairIndex (b i) (b j)) (pairIndex (b x) (b y)) h
 
 -- ---- bounds
 pub own-in : (b : ℕ → ℕ) (i j x y : ℕ) → In (negsuc 3399) (pos figureMost) (own b i j x y)

@@ -6,11 +6,11 @@ use lib.IntN.{ℤ, pos, negsuc}
 use lib.ListN.{replicate}
 use Rattle.bases.specs.Bases.{canPair, pairIndex, isPurine}
 use Rattle.structure.specs.Table.{unpaired, view}
-use Rattle.charges.specs.Figures as fig
-use Rattle.charges.specs.Charge.{hairpin, mismatch, bulge, internal, stack, long, sized, hairpinOf, stackAt, bulgeOf, slant, internalOf, manyOf, chargeOf}
-use Rattle.charges.specs.Loops.{arms, first, between, own, single, kindBy, kind, purines, chargeBy, chargeAt}
-use Rattle.charges.specs.declared.Loop.{Loop}
-use Rattle.charges.specs.declared.Loop.the-variants.{Hairpin, Stack, Bulge, Internal, Many}
+use Rattle.figures.specs.Figures as fig
+use Rattle.figures.specs.Charge.{hairpin, mismatch, bulge, internal, stack, long, sized, hairpinOf, stackAt, bulgeOf, slant, internalOf, manyOf, between, chargeOf}
+use Rattle.figures.specs.declared.Loop.{Loop}
+use Rattle.figures.specs.declared.Loop.the-variants.{Hairpin, Stack, Bulge, Internal, Many}
+use Rattle.charges.specs.Loops.{arms, first, own, single, kindBy, kind, purines, chargeBy, chargeAt}
 
 -- a line: bases, pair table, the kind of the loop that opens at 0 and its charge; a kind's own figure
 pub data Line : Type 0 where

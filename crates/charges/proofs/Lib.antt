@@ -1,8 +1,6 @@
--- The laws of charges (Charges), of walks along a span (Walk), of a loop's charge (Charged), of charges by sides (Flanks) and of opening places (Openings), and a table of kinds (KindTable).
-pub mod Charges
+-- The laws of walks along a span (Walk), of pairs that may not close a loop (Barred), of a loop's charge (Charged) and of opening places (Openings), and a table of kinds (KindTable).
 pub mod Walk
 pub mod Barred
 pub mod Charged
-pub mod Flanks
 pub mod Openings
 pub mod KindTable

@@ -8,7 +8,7 @@ use native.Mathlib.Omega.{arith}
 use native.Mathlib.Numerals.{add-one}
 use native.Mathlib.Decide.{decLt, ℕ-discrete}
 use lib.Dec.{ltb, eqb}
-use lib.IntN.{ℤ, pos, negsuc, _+ℤ_}
+use lib.IntN.{pos, negsuc, _+ℤ_}
 use lib.ListN.{length}
 use lib.Signed.{leZ, _≤ℤ_}
 use borrow.Author.Tests.{ltb-true, eq-eqb, ne-eqb}
@@ -19,11 +19,12 @@ use Rattle.structure.proofs.Folds as folds
 use Rattle.structure.proofs.Counts.{opens-none, opens-high}
 use Rattle.ints.specs.Ints.{In, Small}
 use Rattle.ints.proofs.Ints.{ints, sum, either}
-use Rattle.charges.specs.Figures.{smallestHairpin, longestSide}
-use Rattle.charges.specs.Charge.{manyOf, Figured, figureMost, chargeMost}
-use Rattle.charges.specs.Loops.{mayClose, opening, arms, armsIn, first, firstIn, between, own, single, kindBy, kind, purines, chargeBy, chargeAt, total, Chargeable}
-use Rattle.charges.specs.declared.Loop.{Loop}
-use Rattle.charges.proofs.Charges.{sides-reach, longest-low, term-low, charge-in}
+use Rattle.figures.specs.Figures.{smallestHairpin, longestSide}
+use Rattle.figures.specs.Charge.{manyOf, Figured, figureMost, chargeMost}
+use Rattle.figures.specs.declared.Loop.{Loop}
+use Rattle.figures.proofs.Charges.{sides-reach, longest-low, term-low, charge-in}
+use Rattle.figures.proofs.Flanks.{between-figured}
+use Rattle.charges.specs.Loops.{mayClose, opening, arms, armsIn, first, firstIn, own, single, kindBy, kind, purines, chargeBy, chargeAt, total, Chargeable}
 use Rattle.charges.proofs.Charged.{single-left, single-right, single-own, single-many}
 use Rattle.charges.proofs.Walk.{arms-free, arms-pair, shut-none, shut-low, first-le, one-arm}
 
@@ -117,17 +118,6 @@ module _ (b : ℕ → ℕ) (i j : ℕ) (e : mayClose b i j ≡ true) where
   pub close-far : smallestHairpin < j - i
   unfolding mayClose
   close-far = ltb-true smallestHairpin (j - i) (both (canPair (b i) (b j)) (ltb smallestHairpin (j - i)) e .1)
-
-pub between-figured : (l r o i p : ℕ) → l ≤ longestSide → r ≤ longestSide → o < 6 → i < 6 → Figured (between l r) o i p
-unfolding between
-between-figured l r o i p a c d e =
-    by-cases (ℕ-discrete l 0)
-    (λ q. by-cases (ℕ-discrete r 0)
-    (λ s. simp (eq-eqb l 0 q, eq-eqb r 0 s) (d, e))
-    (λ s. simp (eq-eqb l 0 q, ne-eqb r 0 s) (omega arith, c, d, e)))
-    (λ q. by-cases (ℕ-discrete r 0)
-    (λ s. simp (ne-eqb l 0 q, eq-eqb r 0 s) (omega arith, a, d, e))
-    (λ s. simp (ne-eqb l 0 q, ne-eqb r 0 s) (omega arith, a, omega arith, c)))
 
 single-figured : (b : ℕ → ℕ) (i j x y o n p : ℕ) → o < 6 → n < 6 → Figured (single b i j x y) o n p
 single-figured b i j x y o n p d e =

@@ -1,5 +1,2 @@
--- What the contracts of `charges`, and of every crate that charges a loop, cite.
-pub mod Figures
-pub mod Charge
+-- What the contracts of `charges`, and of every crate that charges a structure, cite.
 pub mod Loops
-pub mod Sides

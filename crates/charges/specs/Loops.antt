@@ -10,10 +10,10 @@ use lib.ListN.{length}
 use lib.Signed.{leZ}
 use Rattle.bases.specs.Bases.{canPair, pairIndex, isPurine}
 use Rattle.structure.specs.Table.{unpaired, view, opens, Fold}
-use Rattle.charges.specs.Figures.{smallestHairpin, longestSide, longest}
-use Rattle.charges.specs.Charge.{hairpinOf, manyOf, chargeOf}
-use Rattle.charges.specs.declared.Loop.{Loop}
-use Rattle.charges.specs.declared.Loop.the-variants.{Hairpin, Stack, Bulge, Internal, Many}
+use Rattle.figures.specs.Figures.{smallestHairpin, longestSide, longest}
+use Rattle.figures.specs.Charge.{hairpinOf, manyOf, between, chargeOf}
+use Rattle.figures.specs.declared.Loop.{Loop}
+use Rattle.figures.specs.declared.Loop.the-variants.{Hairpin, Many}
 
 -- ---- candidates
 -- positions i and j may close a loop: one of the six pairs, and room for a hairpin between them
@@ -63,11 +63,7 @@ abbrev pub firstIn : (ℕ → ℕ) → ℕ → ℕ → ℕ
 firstIn p lo hi = first p (hi - lo) lo
 
 -- ---- the kind of a loop
--- with one inner pair and the sides l and r, by its sides alone
-unfoldable pub between : ℕ → ℕ → Loop
-between l r = cond (eqb l 0) (cond (eqb r 0) Stack (Bulge r)) (cond (eqb r 0) (Bulge l) (Internal l r))
-
--- its own figure: (i, j) is the closing pair, (x, y) the inner one
+-- with one inner pair, its own figure: (i, j) is the closing pair, (x, y) the inner one
 unfoldable pub own : (ℕ → ℕ) → ℕ → ℕ → ℕ → ℕ → ℤ
 own b i j x y = chargeOf (between (x - suc i) (j - suc y)) (pairIndex (b i) (b j)) (pairIndex (b x) (b y)) 0
 

@@ -1,58 +1,19 @@
-// What loops cost: the kinds of loops, their figures, and the energy of a structure as the sum over its loops.
+// What a structure costs: which pairs may close a loop, the kind and the charge of each loop, and the energy as the sum over the loops.
 // These are inner parts: who calls them has tested that the structure is sound and that each of its pairs may close a loop.
-mod figures;
 mod inner;
-mod sided;
-mod tables;
 
+use figures::LONGEST_SIDE;
+use figures::Loop;
+use figures::SMALLEST_HAIRPIN;
 ghost use mathlib.Core.Path.{_≡_};
 ghost use mathlib.Core.Bool.{true, cond};
-ghost use Prim.Native.Nat.{suc, _+_, _-_, _<_, _≤_};
+ghost use Prim.Native.Nat.{suc, _-_, _<_, _≤_};
 ghost use lib.IntN.{pos};
 ghost use lib.ListN.{length};
 ghost use Rattle.bases.specs.Bases.{canPair};
 ghost use Rattle.structure.specs.Table.{view, Sound};
-ghost use Rattle.charges.specs.Figures.{smallestHairpin, longestSide, longest};
-ghost use Rattle.charges.specs.Charge.{chargeOf, Figured};
-ghost use Rattle.charges.specs.Sides.{sideCount, Sides};
-ghost use Rattle.charges.specs.Loops.{mayClose, bars, firstBarred, opening, between, own, single, kind, purines, hairpinAt, chargeAt, energyOf, Chargeable};
-
-// What closing a many-armed loop costs, and each of its inner pairs.
-pub const CLOSING: usize = 3800;
-
-pub const ARM: usize = 400;
-
-// The smallest hairpin.
-pub const SMALLEST_HAIRPIN: usize = 3;
-
-// The longest side of a bulge or an internal loop.
-pub const LONGEST_SIDE: usize = 29;
-
-// How many pairs of sides there are.
-pub const SIDES: usize = (LONGEST_SIDE + 1) * (LONGEST_SIDE + 1);
-
-// The loop of a closing pair, by kind: a hairpin of that many bases, a stack, a bulge of that many, an internal loop with its two sides, a many-armed loop with that many inner pairs.
-pub enum Loop {
-    Hairpin(usize),
-    Stack,
-    Bulge(usize),
-    Internal(usize, usize),
-    Many(usize),
-}
-
-// What a loop costs: `outer` is the number of its closing pair and `inner` that of its one inner pair, and `purines` of the two bases just inside a hairpin are purines.
-pub fn charge(kind: Loop, outer: usize, inner: usize, purines: usize) -> i32
-    requires { ⌜ Figured kind outer inner purines ⌝ }
-    ensures { λ r. ⌜ r ≡ chargeOf kind outer inner purines ⌝ }
-{
-    match kind {
-        Loop::Hairpin(size) => figures::hairpin(size, purines),
-        Loop::Stack => figures::stack(outer, inner),
-        Loop::Bulge(size) => figures::bulge(size, outer, inner),
-        Loop::Internal(left, right) => figures::internal(left, right),
-        Loop::Many(arms) => figures::many(arms),
-    }
-}
+ghost use Rattle.figures.specs.Figures.{smallestHairpin, longestSide, longest};
+ghost use Rattle.charges.specs.Loops.{mayClose, bars, firstBarred, opening, own, single, kind, purines, hairpinAt, chargeAt, energyOf, Chargeable};
 
 fn counted(yes: bool) -> usize
     ensures { λ r. ⌜ r ≡ cond yes 1 0 ⌝ }
@@ -106,28 +67,12 @@ pub fn hairpin_at(bases: &[u8], i: usize, j: usize) -> i32
     requires { ⌜ (j < length (now bases)) × (smallestHairpin < j - i) × (j - suc i ≤ longest) ⌝ }
     ensures { λ r. ⌜ r ≡ hairpinAt (view (now (bases .entry))) i j ⌝ }
 {
-    charge(
+    figures::charge(
         Loop::Hairpin(j - (i + 1)),
         0,
         0,
         purines(bases[i + 1], bases[j - 1]),
     )
-}
-
-// The kind of a loop with one inner pair, by its sides.
-fn between(left: usize, right: usize) -> Loop
-    ensures { λ r. ⌜ r ≡ between left right ⌝ }
-{
-    if left == 0 {
-        if right == 0 {
-            return Loop::Stack;
-        }
-        return Loop::Bulge(right);
-    }
-    if right == 0 {
-        return Loop::Bulge(left);
-    }
-    Loop::Internal(left, right)
 }
 
 // What the loop of i and j with the one inner pair x and y costs by its own kind.
@@ -138,24 +83,8 @@ pub fn own(bases: &[u8], i: usize, j: usize, x: usize, y: usize) -> i32
 {
     let outer = bases::pair_index(bases[i], bases[j]);
     let inner = bases::pair_index(bases[x], bases[y]);
-    let kind = between(x - (i + 1), j - (y + 1));
-    charge(kind, outer, inner, 0)
-}
-
-// Writes the charges of all loops with one inner pair by their two sides: once a fold, for a search that reads a lent slice, since a const table is copied at every read.
-pub fn sides(out: &mut [i32])
-    requires { ⌜ length (now out) ≡ sideCount ⌝ }
-    ensures { λ _. ⌜ Sides (now (out .exit)) ⌝ }
-{
-    let mut sizes = [0; sided::SIZES];
-    sided::by_size(&mut sizes);
-    let mut k = 0;
-    while k < SIDES {
-        let left = k % (LONGEST_SIDE + 1);
-        let right = k / (LONGEST_SIDE + 1);
-        out[k] = sided::entry(&sizes, left, right);
-        k += 1;
-    }
+    let kind = figures::between(x - (i + 1), j - (y + 1));
+    figures::charge(kind, outer, inner, 0)
 }
 
 // The kind of the loop of i and j with the one inner pair x and y: many-armed only where that is cheaper, or a side is too long.
@@ -172,8 +101,8 @@ fn single(bases: &[u8], i: usize, j: usize, x: usize, y: usize) -> Loop
     if LONGEST_SIDE < right {
         return Loop::Many(1);
     }
-    if own(bases, i, j, x, y) <= charge(Loop::Many(1), 0, 0, 0) {
-        return between(left, right);
+    if own(bases, i, j, x, y) <= figures::charge(Loop::Many(1), 0, 0, 0) {
+        return figures::between(left, right);
     }
     Loop::Many(1)
 }
@@ -206,7 +135,7 @@ pub fn charge_at(bases: &[u8], pairs: &[u16], i: usize) -> i32
     let kind = kind_at(bases, pairs, i);
     let outer = bases::pair_index(bases[i], bases[j]);
     let inner = bases::pair_index(bases[x], bases[y]);
-    charge(kind, outer, inner, purines(bases[i + 1], bases[j - 1]))
+    figures::charge(kind, outer, inner, purines(bases[i + 1], bases[j - 1]))
 }
 
 // What position i adds to the energy.

@@ -12,10 +12,10 @@ use borrow.Author.Tests.{ltb-false, le-ltb, eqb-false, ne-eqb}
 use Rattle.refusals.specs.Refusals.{clear, check, then, foldLimit}
 use Rattle.refusals.specs.declared.Place.the-variants.{Nowhere}
 use Rattle.refusals.proofs.Laws.{check-clear, then-clear, neither}
-use Rattle.cells.specs.Tri.{tri}
-use Rattle.charges.proofs.Charges.{fold-reach}
-use Rattle.energy_rule.specs.Memory.{Room}
 use Rattle.sequences.specs.Sequences.{basesDue}
+use Rattle.cells.specs.Tri.{tri}
+use Rattle.figures.proofs.Charges.{fold-reach}
+use Rattle.energy_rule.specs.Memory.{Room}
 use Rattle.energy.specs.Checks.{noRoom, foldDue}
 
 -- a sequence that is folded: some bases and not too many, each of them one, with room for what is written

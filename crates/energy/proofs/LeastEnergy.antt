@@ -9,13 +9,13 @@ use lib.ListN.{length, take, length-map}
 use Rattle.refusals.specs.Refusals.{clear}
 use Rattle.bases.specs.Bases.{normal}
 use Rattle.structure.specs.Table.{view}
-use Rattle.sequences.proofs.Spared.{letters-spared, letters-front}
 use Rattle.structure.specs.Soundness.{tableDue}
 use Rattle.structure.proofs.Checking.{clear-table}
+use Rattle.sequences.proofs.Spared.{letters-spared, letters-front}
 use Rattle.cells.specs.Rule.{Right}
 use Rattle.cells.specs.Fill.{at}
+use Rattle.figures.proofs.Charges.{fold-reach}
 use Rattle.charges.specs.Loops.{Candidate}
-use Rattle.charges.proofs.Charges.{fold-reach}
 use Rattle.energy_rule.specs.Rule.{energies}
 use Rattle.energy_rule.specs.Bounds.{Believable}
 use Rattle.energy_rule.specs.Meaning.{Meant}

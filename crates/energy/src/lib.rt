@@ -1,6 +1,6 @@
 // Least energy: the public fold, over memory that the caller lends.
 // The kept bases and the three tables stay with the caller.
-use charges::SIDES;
+use figures::SIDES;
 use refusals::Refusal;
 use refusals::Verdict;
 ghost use mathlib.Core.Path.{_≡_};
@@ -53,7 +53,7 @@ fn fold(
     sequences::keep(seq, bases);
     // Made once a fold, for the search reads it at every cell.
     let mut sides = [0; SIDES];
-    charges::sides(&mut sides);
+    figures::sides(&mut sides);
     energy_fill::fill(bases, &sides, paired, any, arms, n);
     energy_trace::traceback(bases, paired, any, arms, n, pairs);
     energy(any, n)

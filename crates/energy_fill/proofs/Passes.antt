@@ -14,15 +14,15 @@ use Rattle.cells.specs.Pass.{gather, parts, Raised, Taken}
 use Rattle.cells.proofs.Places.{less-or, three, tri-below}
 use Rattle.cells.proofs.Passes.{gather-front, tri-back}
 use Rattle.cells.proofs.Fills.{Put}
-use Rattle.charges.specs.Figures.{longestSide}
+use Rattle.ints.specs.Ints.{minℤ, mark, addE, minFrom}
+use Rattle.ints.proofs.Ints.{ints, sum, either}
+use Rattle.ints.proofs.Minima.{min-by, min-le-l, min-le-r, add-by, least-ext}
+use Rattle.figures.specs.Figures.{longestSide}
 use Rattle.charges.specs.Loops.{mayClose, hairpinAt}
 use Rattle.energy_rule.specs.Rule.{Table, closingCharge, armCharge, innerAt, lowest, innerFrom, interior, paired, splits, any, armed}
 use Rattle.energy_rule.specs.Bounds.{floor}
 use Rattle.energy_rule.proofs.Parts.{lowest-is, may-far, split-cap}
 use Rattle.energy_rule.proofs.Ruling.{floor-is}
-use Rattle.ints.specs.Ints.{minℤ, mark, addE, minFrom}
-use Rattle.ints.proofs.Ints.{ints, sum, either}
-use Rattle.ints.proofs.Minima.{min-by, min-le-l, min-le-r, add-by, least-ext}
 use Rattle.energy_fill.specs.Search.{InRange}
 use Rattle.energy_fill.specs.Passes.{Started, closed, begun, link}
 use Rattle.energy_fill.proofs.Searching.{min-glb}

@@ -14,14 +14,14 @@ use Rattle.cells.specs.Fill.{at, Fine, FineFrom, Rows}
 use Rattle.cells.specs.Pass.{parts, Settled}
 use Rattle.cells.proofs.Places.{less-or, three, tri-below}
 use Rattle.cells.proofs.Passes.{gather-none, settled-value}
-use Rattle.charges.specs.Figures.{longest}
+use Rattle.ints.specs.Ints.{minℤ, mark}
+use Rattle.ints.proofs.Ints.{ints, either}
+use Rattle.figures.specs.Figures.{longest}
 use Rattle.charges.specs.Loops.{mayClose}
 use Rattle.energy_rule.specs.Rule.{Table, Cell, armCharge, paired, any, armed, energies, pairedOf, armsOf}
 use Rattle.energy_rule.specs.Bounds.{Ranged}
 use Rattle.energy_rule.proofs.Parts.{may-far}
 use Rattle.energy_rule.proofs.Ruling.{energies-one, energies-more, energies-keeps, triple, floor-is, paired-none}
-use Rattle.ints.specs.Ints.{minℤ, mark}
-use Rattle.ints.proofs.Ints.{ints, either}
 use Rattle.energy_fill.specs.Search.{InRange, InPaired, Smalls}
 use Rattle.energy_fill.specs.Passes.{Started, closed, begun, link}
 use Rattle.energy_fill.proofs.Searching.{range-small}

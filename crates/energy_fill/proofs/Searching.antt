@@ -13,19 +13,19 @@ use Rattle.cells.specs.Rule.{Bases}
 use Rattle.cells.specs.Fill.{at, Fine}
 use Rattle.cells.proofs.Places.{tri-below}
 use Rattle.cells.proofs.Passes.{tri-back}
-use Rattle.charges.specs.Figures.{smallestHairpin, longestSide, longest}
+use Rattle.ints.specs.Ints.{minℤ, mark, addE, minFrom, Small}
+use Rattle.ints.proofs.Ints.{ints, sum, either}
+use Rattle.ints.proofs.Minima.{less, min-by, min-l, min-le-l, min-le-r, add-by, add-some, add-none-l, least-le, least-real, least-cap, least-more}
+use Rattle.figures.specs.Figures.{smallestHairpin, longestSide, longest}
+use Rattle.figures.specs.Sides.{sideCount, sideCharge, Sides}
+use Rattle.figures.proofs.Charges.{figure-low, longest-low}
+use Rattle.figures.proofs.Flanks.{side-in}
 use Rattle.charges.specs.Loops.{mayClose, own}
-use Rattle.charges.specs.Sides.{sideCount, sideCharge, Sides}
-use Rattle.charges.proofs.Charges.{figure-low, longest-low}
-use Rattle.charges.proofs.Charged.{own-in}
-use Rattle.charges.proofs.Flanks.{own-side, side-in}
+use Rattle.charges.proofs.Charged.{own-in, own-side}
 use Rattle.energy_rule.specs.Rule.{Table, innerAt, interior}
 use Rattle.energy_rule.specs.Memory.{nums}
 use Rattle.energy_rule.proofs.Parts.{interior-le, interior-real}
 use Rattle.energy_rule.proofs.Ruling.{floor-is}
-use Rattle.ints.specs.Ints.{minℤ, mark, addE, minFrom, Small}
-use Rattle.ints.proofs.Ints.{ints, sum, either}
-use Rattle.ints.proofs.Minima.{less, min-by, min-l, min-le-l, min-le-r, add-by, add-some, add-none-l, least-le, least-real, least-cap, least-more}
 use Rattle.energy_fill.specs.Search.{InRange, InPaired, Smalls, Charge, charged, lowEnd, sideTo, side, near}
 
 -- what is in range may stand in a sum

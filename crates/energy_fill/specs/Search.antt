@@ -6,15 +6,15 @@ use Prim.Native.Nat.{ℕ, suc, _+_, _-_, _*_, _≤_, _<_, min}
 use lib.IntN.{ℤ, pos}
 use lib.ListN.{length}
 use lib.Signed.{_≤ℤ_, _<ℤ_}
+use Rattle.structure.specs.Table.{view}
 use Rattle.cells.specs.Tri.{tri, place}
 use Rattle.cells.specs.Rule.{Bases}
 use Rattle.cells.specs.Fill.{at, Fine}
-use Rattle.charges.specs.Figures.{smallestHairpin, longestSide, longest}
+use Rattle.ints.specs.Ints.{mark, addE, minFrom, In, Small}
+use Rattle.figures.specs.Figures.{smallestHairpin, longestSide, longest}
 use Rattle.charges.specs.Loops.{mayClose}
 use Rattle.energy_rule.specs.Bounds.{floor}
 use Rattle.energy_rule.specs.Memory.{nums}
-use Rattle.ints.specs.Ints.{mark, addE, minFrom, In, Small}
-use Rattle.structure.specs.Table.{view}
 
 -- a cell of any of the tables is in range
 abbrev pub InRange : ℕ → ℕ → ℤ → Type 0

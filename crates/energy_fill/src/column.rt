@@ -3,12 +3,12 @@ ghost use mathlib.Core.Path.{_≡_};
 ghost use Prim.Native.Nat.{_+_, _-_, _≤_, _<_};
 ghost use lib.ListN.{length, set};
 ghost use Rattle.structure.specs.Table.{view};
-ghost use Rattle.ints.specs.Ints.{minℤ, addE, Small};
 ghost use Rattle.cells.specs.Tri.{tri};
 ghost use Rattle.cells.specs.Fill.{at, Fine, FineFrom, Rows};
 ghost use Rattle.cells.specs.Pass.{Raised, Taken, Settled};
-ghost use Rattle.charges.specs.Figures.{longest};
-ghost use Rattle.charges.specs.Sides.{Sides};
+ghost use Rattle.ints.specs.Ints.{minℤ, addE, Small};
+ghost use Rattle.figures.specs.Figures.{longest};
+ghost use Rattle.figures.specs.Sides.{Sides};
 ghost use Rattle.energy_rule.specs.Rule.{energies};
 ghost use Rattle.energy_rule.specs.Bounds.{Ranged};
 ghost use Rattle.energy_rule.specs.Memory.{nums, table, three, Room};
@@ -26,7 +26,7 @@ fn close(bases: &[u8], sides: &[i32], paired: &[i32], arms: &[i32], i: usize, j:
     let hairpin = charges::hairpin_at(bases, i, j);
     let interior = crate::inner::interior(bases, sides, paired, i, j);
     let at = cells::place(i + 1, j - 1);
-    let many = ints::plus(ints::cell(arms, at), charges::CLOSING as i32);
+    let many = ints::plus(ints::cell(arms, at), figures::CLOSING as i32);
     ints::least(ints::least(hairpin, interior), many)
 }
 
@@ -164,7 +164,7 @@ pub fn rows(
 {
     let to = cells::place(0, j);
     close_all(bases, sides, paired, arms, j, to, from);
-    start(paired, arms, j, to, from, charges::ARM as i32, ints::MARK);
+    start(paired, arms, j, to, from, figures::ARM as i32, ints::MARK);
     settle(arms, j, to, from);
     start(paired, any, j, to, from, 0, 0);
     settle(any, j, to, from);

@@ -4,11 +4,11 @@ ghost use mathlib.Core.Bool.{true};
 ghost use Prim.Native.Nat.{ℕ, suc, _+_, _-_, _≤_, _<_};
 ghost use lib.ListN.{length};
 ghost use Rattle.structure.specs.Table.{view};
-ghost use Rattle.ints.specs.Ints.{minFrom};
 ghost use Rattle.cells.specs.Tri.{tri};
 ghost use Rattle.cells.specs.Fill.{at, Fine};
-ghost use Rattle.charges.specs.Figures.{smallestHairpin, longestSide, longest};
-ghost use Rattle.charges.specs.Sides.{Sides};
+ghost use Rattle.ints.specs.Ints.{minFrom};
+ghost use Rattle.figures.specs.Figures.{smallestHairpin, longestSide, longest};
+ghost use Rattle.figures.specs.Sides.{Sides};
 ghost use Rattle.charges.specs.Loops.{mayClose};
 ghost use Rattle.energy_rule.specs.Rule.{innerAt, interior};
 ghost use Rattle.energy_rule.specs.Memory.{nums, table};
@@ -42,19 +42,19 @@ fn near(paired: &[i32], sides: &[i32], i: usize, j: usize) -> i32
     requires { ⌜ (i + smallestHairpin < j) × (j < longest + 2) × (tri j ≤ length (now paired)) × Fine InRange (at (nums (now paired))) j × Sides (now sides) ⌝ }
     ensures { λ r. ⌜ r ≡ near (nums (now (paired .entry))) (nums (now (sides .entry))) i j ⌝ }
 {
-    let low = i + 2 + charges::SMALLEST_HAIRPIN;
-    let count = cells::smaller(charges::LONGEST_SIDE + 1, above(j, low));
+    let low = i + 2 + figures::SMALLEST_HAIRPIN;
+    let count = cells::smaller(figures::LONGEST_SIDE + 1, above(j, low));
     let mut best = ints::MARK;
     let mut r = 0;
     let mut q = j - 1;
     let mut col = cells::place(i + 1, q);
     while r < count {
-        let hi = cells::smaller(charges::LONGEST_SIDE + 1, q + 1 - low);
+        let hi = cells::smaller(figures::LONGEST_SIDE + 1, q + 1 - low);
         let x = run(
             paired,
             sides,
             col,
-            (charges::LONGEST_SIDE + 1) * r,
+            (figures::LONGEST_SIDE + 1) * r,
             above(2, r),
             hi,
         );

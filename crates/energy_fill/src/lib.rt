@@ -3,7 +3,7 @@
 ghost use Prim.Native.Nat.{_≤_};
 ghost use Rattle.structure.specs.Table.{view};
 ghost use Rattle.cells.specs.Fill.{at, FineElse, Columns};
-ghost use Rattle.charges.specs.Sides.{Sides};
+ghost use Rattle.figures.specs.Sides.{Sides};
 ghost use Rattle.energy_rule.specs.Rule.{energies};
 ghost use Rattle.energy_rule.specs.Bounds.{Ranged};
 ghost use Rattle.energy_rule.specs.Memory.{three, Room};

@@ -7,7 +7,7 @@ use lib.IntN.{ℤ}
 use lib.ListN.{length}
 use Rattle.cells.specs.Tri.{place}
 use Rattle.cells.proofs.Places.{place-below, tri-mono}
-use Rattle.charges.proofs.Charges.{longest-low}
+use Rattle.figures.proofs.Charges.{longest-low}
 use Rattle.energy_reach.specs.Reach.{Ready}
 
 -- a place in the table, and a column that `place` takes

@@ -7,7 +7,7 @@ use native.Mathlib.Decide.{ℕ-discrete}
 use native.Mathlib.Omega.{arith}
 use Rattle.cells.specs.Rule.{Bases}
 use Rattle.ints.proofs.Ints.{either}
-use Rattle.charges.specs.Figures.{longestSide}
+use Rattle.figures.specs.Figures.{longestSide}
 use Rattle.energy_rule.specs.Rule.{Table, lowest}
 use Rattle.energy_rule.proofs.Parts.{lowest-is}
 use Rattle.energy_reach.specs.Reach.{firstOf, orElse, firstRow, splitAt, splitting, reaches, innerRow, inside}

@@ -5,10 +5,10 @@ use Prim.Native.Nat.{ℕ, zero, suc, _+_, _-_, _≤_, _<_, min}
 use lib.IntN.{ℤ}
 use lib.ListN.{length}
 use lib.Signed.{leZ}
-use Rattle.ints.specs.Ints.{addE, Small}
 use Rattle.cells.specs.Tri.{tri}
 use Rattle.cells.specs.Rule.{Bases}
-use Rattle.charges.specs.Figures.{longest, longestSide}
+use Rattle.ints.specs.Ints.{addE, Small}
+use Rattle.figures.specs.Figures.{longest, longestSide}
 use Rattle.energy_rule.specs.Rule.{Table, innerAt, lowest}
 use Rattle.energy_rule.specs.Memory.{table}
 use Rattle.energy_reach.specs.declared.Found.{Found}

@@ -1,8 +1,8 @@
 // Whether a candidate reaches the value of a cell, and the first that does.
-use charges::ARM;
-use charges::CLOSING;
-use charges::LONGEST_SIDE;
-use charges::SMALLEST_HAIRPIN;
+use figures::ARM;
+use figures::CLOSING;
+use figures::LONGEST_SIDE;
+use figures::SMALLEST_HAIRPIN;
 use ints::MARK;
 ghost use mathlib.Core.Path.{_≡_};
 ghost use mathlib.Core.Bool.{true};
@@ -12,7 +12,7 @@ ghost use lib.ListN.{length};
 ghost use lib.Signed.{ltZ};
 ghost use Rattle.structure.specs.Table.{view};
 ghost use Rattle.ints.specs.Ints.{mark, addE, Small};
-ghost use Rattle.charges.specs.Figures.{longest, longestSide};
+ghost use Rattle.figures.specs.Figures.{longest, longestSide};
 ghost use Rattle.charges.specs.Loops.{mayClose, hairpinAt};
 ghost use Rattle.energy_rule.specs.Rule.{closingCharge, armCharge, innerAt, lowest};
 ghost use Rattle.energy_rule.specs.Memory.{table};

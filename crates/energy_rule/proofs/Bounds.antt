@@ -6,15 +6,15 @@ use native.Mathlib.Omega.{arith}
 use native.Mathlib.Decide.{ℕ-discrete}
 use lib.IntN.{pos}
 use lib.Signed.{_≤ℤ_, _<ℤ_}
+use Rattle.cells.specs.Rule.{Bases, Cells, Right}
+use Rattle.cells.proofs.Fills.{right-fine}
 use Rattle.ints.specs.Ints.{mark}
 use Rattle.ints.proofs.Ints.{ints, sum, either}
 use Rattle.ints.proofs.Minima.{less}
-use Rattle.cells.specs.Rule.{Bases, Cells, Right}
-use Rattle.cells.proofs.Fills.{right-fine}
-use Rattle.charges.specs.Figures.{arm}
-use Rattle.charges.specs.Charge.{figureMost}
+use Rattle.figures.specs.Figures.{arm}
+use Rattle.figures.specs.Charge.{figureMost}
+use Rattle.figures.proofs.Charges.{figure-low}
 use Rattle.charges.specs.Loops.{mayClose}
-use Rattle.charges.proofs.Charges.{figure-low}
 use Rattle.energy_rule.specs.Rule.{Table, Cell, armCharge, energies, pairedOf, anyOf, armsOf}
 use Rattle.energy_rule.specs.Bounds.{Ranged, Believable}
 use Rattle.energy_rule.proofs.Ruling.{floor-is, energies-keeps}

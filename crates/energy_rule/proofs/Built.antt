@@ -9,12 +9,12 @@ use native.Mathlib.Decide.{ℕ-discrete}
 use lib.IntN.{pos}
 use lib.Signed.{_<ℤ_}
 use lib.ListN.{length, set, length-set}
-use Rattle.ints.specs.Ints.{mark}
-use Rattle.ints.proofs.Ints.{ints, sum, diff}
 use Rattle.structure.specs.Table.{unpaired, view}
 use Rattle.tables.specs.Writing.{joined, Blank}
 use Rattle.cells.specs.Rule.{Bases}
-use Rattle.charges.specs.Figures.{arm}
+use Rattle.ints.specs.Ints.{mark}
+use Rattle.ints.proofs.Ints.{ints, sum, diff}
+use Rattle.figures.specs.Figures.{arm}
 use Rattle.charges.specs.Loops.{mayClose, armsIn, total}
 use Rattle.energy_rule.specs.Rule.{Table}
 use Rattle.energy_rule.specs.Meaning.{energyIn, armedIn}

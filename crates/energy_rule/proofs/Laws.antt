@@ -8,14 +8,14 @@ use native.Mathlib.Decide.{ℕ-discrete}
 use native.Mathlib.Numerals.{add-one}
 use lib.IntN.{ℤ, pos, _+ℤ_}
 use lib.Signed.{_≤ℤ_, _<ℤ_}
+use Rattle.cells.specs.Rule.{Bases, Cells, Right}
 use Rattle.ints.specs.Ints.{mark, addE, minℤ}
 use Rattle.ints.proofs.Ints.{ints, either}
 use Rattle.ints.proofs.Minima.{min-le-l, min-le-r, min-one, add-some, add-real}
-use Rattle.cells.specs.Rule.{Bases, Cells, Right}
-use Rattle.charges.specs.Figures.{longestSide}
-use Rattle.charges.specs.Charge.{figureMost}
+use Rattle.figures.specs.Figures.{longestSide}
+use Rattle.figures.specs.Charge.{figureMost}
+use Rattle.figures.proofs.Charges.{figure-low}
 use Rattle.charges.specs.Loops.{mayClose, own, hairpinAt}
-use Rattle.charges.proofs.Charges.{figure-low}
 use Rattle.charges.proofs.Charged.{hairpinAt-in}
 use Rattle.energy_rule.specs.Rule.{Table, Cell, closingCharge, armCharge, interior, paired, splits, any, armed, energies, pairedOf, anyOf, armsOf}
 use Rattle.energy_rule.proofs.Parts.{may-far, split-le, Cut, split-real, interior-le, Inner, interior-real}

@@ -9,12 +9,12 @@ use native.Mathlib.Omega.{arith}
 use native.Mathlib.Decide.{decLt, ℕ-discrete}
 use lib.IntN.{_+ℤ_}
 use lib.ListN.{length}
-use Rattle.ints.proofs.Ints.{ints, sum, either}
 use Rattle.bases.specs.Bases.{pairIndex}
 use Rattle.structure.specs.Table.{unpaired, view, Fold}
 use Rattle.structure.proofs.Folds as folds
-use Rattle.charges.specs.Charge.{chargeOf}
-use Rattle.charges.specs.Loops.{Candidate, Chargeable, mayClose, opening, arms, armsIn, first, firstIn, between, own, single, kindBy, kind, purines, chargeBy, chargeAt, total, energyOf}
+use Rattle.ints.proofs.Ints.{ints, sum, either}
+use Rattle.figures.specs.Charge.{between, chargeOf}
+use Rattle.charges.specs.Loops.{Candidate, Chargeable, mayClose, opening, arms, armsIn, first, firstIn, own, single, kindBy, kind, purines, chargeBy, chargeAt, total, energyOf}
 use Rattle.charges.proofs.Walk.{shut-none, shut-low, total-free, total-open, first-le}
 use Rattle.charges.proofs.Openings.{closes, foremost}
 

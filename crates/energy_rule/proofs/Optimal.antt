@@ -8,14 +8,14 @@ use native.Mathlib.Omega.{arith}
 use native.Mathlib.Decide.{ℕ-discrete}
 use lib.IntN.{pos, _+ℤ_}
 use lib.Signed.{_≤ℤ_, _<ℤ_}
-use Rattle.ints.specs.Ints.{mark}
-use Rattle.ints.proofs.Ints.{ints, sum, diff}
 use Rattle.structure.specs.Table.{unpaired}
 use Rattle.structure.proofs.Folds as folds
 use Rattle.cells.specs.Rule.{Bases}
-use Rattle.charges.specs.Figures.{arm}
+use Rattle.ints.specs.Ints.{mark}
+use Rattle.ints.proofs.Ints.{ints, sum, diff}
+use Rattle.figures.specs.Figures.{arm}
+use Rattle.figures.proofs.Charges.{many-is, figure-low}
 use Rattle.charges.specs.Loops.{Candidate, mayClose, own, armsIn, firstIn, chargeAt, total}
-use Rattle.charges.proofs.Charges.{many-is, figure-low}
 use Rattle.charges.proofs.Walk.{shut-none, arms-none, arms-free, arms-pair, total-free, total-open, armless, one-arm}
 use Rattle.charges.proofs.Walk as walk
 use Rattle.charges.proofs.Charged.{by-hairpin, by-inner, by-arms, charged}

@@ -6,13 +6,13 @@ use native.Mathlib.Omega.{arith}
 use native.Mathlib.Numerals.{add-one}
 use lib.IntN.{ℤ, _+ℤ_}
 use lib.Signed.{_≤ℤ_, _<ℤ_}
+use Rattle.cells.specs.Rule.{Bases}
 use Rattle.ints.specs.Ints.{mark, addE, minFrom}
 use Rattle.ints.proofs.Ints.{ints, either}
 use Rattle.ints.proofs.Minima.{least-le, least-real, least-cap, add-some, add-real}
-use Rattle.cells.specs.Rule.{Bases}
-use Rattle.charges.specs.Figures.{smallestHairpin, longestSide}
+use Rattle.figures.specs.Figures.{smallestHairpin, longestSide}
+use Rattle.figures.proofs.Charges.{figure-low}
 use Rattle.charges.specs.Loops.{mayClose, own}
-use Rattle.charges.proofs.Charges.{figure-low}
 use Rattle.charges.proofs.Charged.{own-in}
 use Rattle.charges.proofs.Openings.{close-far}
 use Rattle.energy_rule.specs.Rule.{Table, innerAt, lowest, innerFrom, interior, splits}

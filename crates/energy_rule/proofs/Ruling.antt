@@ -8,14 +8,14 @@ use native.Mathlib.Decide.{ℕ-discrete}
 use lib.IntN.{ℤ, pos}
 use lib.Signed.{_≤ℤ_}
 use borrow.Author.Tests.{lt-ltb, le-ltb}
+use Rattle.cells.specs.Rule.{Bases, Cells, Local, SameBases, SameInside}
+use Rattle.cells.specs.Fill.{Keeps, FineInside}
 use Rattle.ints.specs.Ints.{mark, addE, minℤ, In, Small}
 use Rattle.ints.proofs.Ints.{ints, sum, neg, up, dn, either}
 use Rattle.ints.proofs.Minima.{less, min-by, min-le-l, min-le-r, add-by, least-ext}
-use Rattle.cells.specs.Rule.{Bases, Cells, Local, SameBases, SameInside}
-use Rattle.cells.specs.Fill.{Keeps, FineInside}
-use Rattle.charges.specs.Figures.{longestSide, longest}
+use Rattle.figures.specs.Figures.{longestSide, longest}
+use Rattle.figures.proofs.Charges.{figure-low, longest-low}
 use Rattle.charges.specs.Loops.{mayClose, own, hairpinAt}
-use Rattle.charges.proofs.Charges.{figure-low, longest-low}
 use Rattle.charges.proofs.Charged.{own-in, hairpinAt-in}
 use Rattle.energy_rule.specs.Rule.{Table, Cell, closingCharge, armCharge, innerAt, lowest, innerFrom, interior, paired, splits, any, armed, energies, pairedOf, anyOf, armsOf}
 use Rattle.energy_rule.specs.Bounds.{deepest, floor, Ranged}

@@ -10,14 +10,14 @@ use lib.IntN.{ℤ, pos, _+ℤ_}
 use lib.Signed.{_≤ℤ_}
 use lib.ListN.{length, set, length-set}
 use lib.Seq.{getD-set-same, getD-set-other}
-use Rattle.ints.proofs.Ints.{ints, sum}
 use Rattle.structure.specs.Table.{unpaired, view}
-use Rattle.tables.specs.Writing.{joined, Blank}
 use Rattle.structure.proofs.Folds as folds
+use Rattle.tables.specs.Writing.{joined, Blank}
 use Rattle.cells.specs.Rule.{Bases}
-use Rattle.charges.specs.Figures.{arm, longestSide}
+use Rattle.ints.proofs.Ints.{ints, sum}
+use Rattle.figures.specs.Figures.{arm, longestSide}
+use Rattle.figures.proofs.Charges.{many-is}
 use Rattle.charges.specs.Loops.{Candidate, mayClose, own, hairpinAt, armsIn, firstIn, chargeAt, total}
-use Rattle.charges.proofs.Charges.{many-is}
 use Rattle.charges.proofs.Walk.{shut-none, shut-low, opens-up, arms-none, arms-free, arms-pair, arms-join, first-here, total-free, total-open, bare}
 use Rattle.charges.proofs.Charged.{none, inner-most, arms-most}
 use Rattle.energy_rule.specs.Rule.{closingCharge, armCharge}

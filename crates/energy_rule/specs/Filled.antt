@@ -7,7 +7,7 @@ use lib.ListN.{length}
 use lib.Signed.{_≤ℤ_}
 use Rattle.structure.specs.Table.{view}
 use Rattle.cells.specs.Rule.{Bases}
-use Rattle.charges.specs.Figures.{arm}
+use Rattle.figures.specs.Figures.{arm}
 use Rattle.charges.specs.Loops.{Candidate, armsIn, total}
 
 -- a candidate was written into the span, and nothing else

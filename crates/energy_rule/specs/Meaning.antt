@@ -4,9 +4,9 @@ use mathlib.Core.Logic.{_⊎_}
 use Prim.Native.Nat.{ℕ, suc, _*_, _≤_}
 use lib.IntN.{ℤ, pos, _+ℤ_, _-ℤ_}
 use lib.Signed.{_≤ℤ_}
-use Rattle.ints.specs.Ints.{mark}
 use Rattle.cells.specs.Rule.{Bases}
-use Rattle.charges.specs.Figures.{arm}
+use Rattle.ints.specs.Ints.{mark}
+use Rattle.figures.specs.Figures.{arm}
 use Rattle.charges.specs.Loops.{Candidate, armsIn, total}
 use Rattle.energy_rule.specs.Rule.{Cell}
 

@@ -5,7 +5,7 @@ use lib.IntN.{ℤ, pos}
 use lib.ListN.{length, getD}
 use Rattle.cells.specs.Tri.{tri, place}
 use Rattle.cells.specs.Fill.{trio}
-use Rattle.charges.specs.Figures.{longest}
+use Rattle.figures.specs.Figures.{longest}
 use Rattle.energy_rule.specs.Rule.{Table, Cell}
 
 -- the numbers of a lent list, by place

@@ -4,9 +4,9 @@ use mathlib.Core.Bool.{cond}
 use Prim.Native.Nat.{ℕ, suc, _+_, _-_, _*_, min, max}
 use lib.Dec.{ltb}
 use lib.IntN.{ℤ, pos}
-use Rattle.ints.specs.Ints.{minℤ, mark, addE, minFrom}
 use Rattle.cells.specs.Rule.{Bases, Cells, Rule}
-use Rattle.charges.specs.Figures.{smallestHairpin, longestSide, closing, arm}
+use Rattle.ints.specs.Ints.{minℤ, mark, addE, minFrom}
+use Rattle.figures.specs.Figures.{smallestHairpin, longestSide, closing, arm}
 use Rattle.charges.specs.Loops.{mayClose, own, hairpinAt}
 
 -- one table's cells

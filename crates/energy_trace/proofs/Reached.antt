@@ -20,9 +20,9 @@ use Rattle.cells.specs.Fill.{at}
 use Rattle.ints.specs.Ints.{mark, addE}
 use Rattle.ints.proofs.Ints.{ints, either, le-yes, le-no, lt-no}
 use Rattle.ints.proofs.Minima.{add-some, add-real}
-use Rattle.charges.specs.Figures.{longestSide}
+use Rattle.figures.specs.Figures.{longestSide}
+use Rattle.figures.proofs.Charges.{figure-low}
 use Rattle.charges.specs.Loops.{Candidate, mayClose, own, hairpinAt}
-use Rattle.charges.proofs.Charges.{figure-low}
 use Rattle.charges.proofs.Charged.{own-in}
 use Rattle.energy_rule.specs.Rule.{Table, closingCharge, armCharge, innerAt, lowest, energies}
 use Rattle.energy_rule.specs.Meaning.{energyIn}

@@ -7,7 +7,7 @@ use lib.IntN.{ℤ}
 use Rattle.structure.specs.Table.{view}
 use Rattle.cells.specs.Tri.{tri}
 use Rattle.cells.proofs.Places.{tri-mono}
-use Rattle.charges.specs.Figures.{longest}
+use Rattle.figures.specs.Figures.{longest}
 use Rattle.energy_rule.proofs.Ruling.{ranged-small}
 use Rattle.energy_reach.specs.Reach.{Ready}
 use Rattle.energy_trace.specs.Trace.{Traceable}

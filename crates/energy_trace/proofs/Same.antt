@@ -17,7 +17,7 @@ use Rattle.cells.specs.Rule.{Bases, SameBases}
 use Rattle.cells.specs.Fill.{at}
 use Rattle.ints.specs.Ints.{mark, addE}
 use Rattle.ints.proofs.Ints.{either}
-use Rattle.charges.specs.Figures.{longestSide}
+use Rattle.figures.specs.Figures.{longestSide}
 use Rattle.charges.specs.Loops.{mayClose}
 use Rattle.energy_rule.specs.Rule.{Table, Cell, closingCharge, armCharge, innerAt, lowest}
 use Rattle.energy_rule.specs.Memory.{table, three}

@@ -8,13 +8,13 @@ use lib.IntN.{ℤ, pos}
 use lib.ListN.{length, take}
 use lib.Seq.{getD-take, length-take-le}
 use lib.Signed.{_≤ℤ_}
-use Rattle.ints.proofs.Ints.{ints, sum, diff}
+use Rattle.structure.specs.Table.{unpaired, view, Sound}
 use Rattle.cells.specs.Rule.{Right}
 use Rattle.cells.specs.Fill.{at}
-use Rattle.structure.specs.Table.{unpaired, view, Sound}
-use Rattle.charges.specs.Figures.{longest}
+use Rattle.ints.proofs.Ints.{ints, sum, diff}
+use Rattle.figures.specs.Figures.{longest}
+use Rattle.figures.proofs.Charges.{longest-low}
 use Rattle.charges.specs.Loops.{Candidate, Chargeable, total, energyOf}
-use Rattle.charges.proofs.Charges.{longest-low}
 use Rattle.energy_rule.specs.Rule.{energies}
 use Rattle.energy_rule.specs.Meaning.{energyIn}
 use Rattle.energy_rule.specs.Memory.{table, three}

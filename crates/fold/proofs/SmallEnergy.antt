@@ -6,11 +6,11 @@ use Prim.Native.Nat.{ℕ}
 use native.Mathlib.Omega.{arith}
 use lib.IntN.{ℤ}
 use lib.ListN.{length, take, length-map}
-use Rattle.ints.specs.Ints.{Small}
 use Rattle.bases.specs.Bases.{normal}
 use Rattle.structure.specs.Table.{view}
+use Rattle.ints.specs.Ints.{Small}
+use Rattle.figures.proofs.Charges.{fold-reach}
 use Rattle.charges.specs.Loops.{Candidate, Chargeable}
-use Rattle.charges.proofs.Charges.{fold-reach}
 use Rattle.charges.proofs.Openings.{total-small}
 use Rattle.energy.specs.Calls.{Folds}
 use Rattle.energy.specs.declared.Minimum.{Minimum}

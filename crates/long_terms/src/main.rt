@@ -1,6 +1,6 @@
-// The table of long loops, made again: the term of every size, in whole numbers, against what `charges` adds for it.
+// The table of long loops, made again: the term of every size, in whole numbers, against what `figures` adds for it.
 // 1000 × 1.75 × 0.001987 × 310.15 × ln(size / 30), where ln(size / 30) is the sum of ln((k + 1) / k) for k from 30 to before the size.
-use charges::Loop;
+use figures::Loop;
 use libc::STDOUT_FILENO;
 use refusals::FOLD_LIMIT;
 ghost use Prim.Native.Nat.{_+_, _≤_, _<_};
@@ -58,7 +58,7 @@ fn hairpin(size: usize) -> usize
     requires { ⌜ (30 ≤ size) × (size + 2 ≤ foldLimit) ⌝ }
     ensures { λ r. ⌜ r ≤ 1000000000 ⌝ }
 {
-    let energy = charges::charge(Loop::Hairpin(size), 0, 0, 0);
+    let energy = figures::charge(Loop::Hairpin(size), 0, 0, 0);
     ints::magnitude(energy)
 }
 

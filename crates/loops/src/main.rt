@@ -1,5 +1,5 @@
 // What structures cost. A line of standard input is a strand and its brackets; for each, every loop is written with its opening place, kind and charge, and then the energy.
-use charges::Loop;
+use figures::Loop;
 use libc::STDIN_FILENO;
 use libc::STDOUT_FILENO;
 use refusals::FOLD_LIMIT;

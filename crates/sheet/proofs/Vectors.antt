@@ -13,9 +13,9 @@ use Rattle.sequences.specs.Sequences.{basesDue}
 use Rattle.cells.specs.Tri.{tri}
 use Rattle.cells.specs.Solve.{every}
 use Rattle.ints.specs.Ints.{mark, minℤ, addE, minFrom}
-use Rattle.charges.specs.Figures as fig
-use Rattle.charges.specs.Charge.{hairpin, mismatch, bulge, internal, stack, long, sized, hairpinOf, stackAt, bulgeOf, slant, internalOf, manyOf}
-use Rattle.charges.specs.Loops.{mayClose, arms, first, between, own, single, kindBy, kind, purines, hairpinAt, chargeBy, chargeAt, total}
+use Rattle.figures.specs.Figures as fig
+use Rattle.figures.specs.Charge.{hairpin, mismatch, bulge, internal, stack, long, sized, hairpinOf, stackAt, bulgeOf, slant, internalOf, manyOf, between}
+use Rattle.charges.specs.Loops.{mayClose, arms, first, own, single, kindBy, kind, purines, hairpinAt, chargeBy, chargeAt, total}
 use Rattle.energy_rule.specs.Rule.{innerAt, lowest, innerFrom, interior, paired, splits, any, armed, energies}
 use Rattle.energy_reach.specs.Reach.{same, firstOf, firstRow, splitAt, splitting, reaches, innerRow, inside}
 use Rattle.energy_trace.specs.Choosing.{shorter, anyMove, armsMove, closedMove, moveOf}

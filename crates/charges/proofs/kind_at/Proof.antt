@@ -6,8 +6,8 @@ use native.Mathlib.Omega.{arith}
 use borrow.Author.Needs.{needs}
 use denote.Ref.{now}
 use Rattle.structure.specs.Table.{view}
+use Rattle.figures.specs.declared.Loop.the-variants.{Hairpin, Many}
 use Rattle.charges.specs.Loops.{firstIn}
-use Rattle.charges.specs.declared.Loop.the-variants.{Hairpin, Many}
 use Rattle.charges.proofs.Charged.{kind-none, kind-one, kind-more}
 use Rattle.charges.proofs.Openings.{Closes, Foremost, close-pair, inner-at, first-at, closes}
 use Rattle.charges.proofs.kind_at.Statement.{statement}

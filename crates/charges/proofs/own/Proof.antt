@@ -7,10 +7,10 @@ use denote.Ref.{now}
 use Rattle.bases.proofs.Laws.{index-below}
 use Rattle.structure.specs.Table.{view}
 use Rattle.ints.proofs.Ints.{is}
-use Rattle.charges.specs.Charge.{Figured}
-use Rattle.charges.specs.declared.Loop.{Loop}
+use Rattle.figures.specs.Charge.{Figured}
+use Rattle.figures.specs.declared.Loop.{Loop}
+use Rattle.figures.proofs.Flanks.{between-figured}
 use Rattle.charges.proofs.Charged.{own-is}
-use Rattle.charges.proofs.Openings.{between-figured}
 use Rattle.charges.proofs.own.Statement.{statement}
 use Rattle.charges.proofs.own.Tie as tie
 

@@ -6,9 +6,9 @@ use borrow.Author.Needs.{needs}
 use denote.Ref.{now}
 use Rattle.structure.specs.Table.{view}
 use Rattle.ints.proofs.Ints.{bk, is}
-use Rattle.charges.specs.Loops.{between}
+use Rattle.figures.specs.Charge.{between}
+use Rattle.figures.proofs.Charges.{sides-reach}
 use Rattle.charges.proofs.Charged.{single-left, single-right, single-own, single-many}
-use Rattle.charges.proofs.Charges.{sides-reach}
 use Rattle.charges.proofs.single.Statement.{statement}
 use Rattle.charges.proofs.single.Tie as tie
 

@@ -3,15 +3,15 @@ use mathlib.Core.Path.{_≡_, subst, _∙_}
 use Prim.Native.Nat.{_+_, _-_, _≤_}
 use native.Mathlib.Omega.{arith}
 use lib.ListN.{length}
+use Rattle.structure.specs.Table.{view}
 use Rattle.cells.specs.Fill.{Columns}
 use Rattle.cells.proofs.Fills.{columns-none, columns-fine, columns-more}
 use Rattle.cells.proofs.Places.{tri-mono}
-use Rattle.charges.proofs.Charges.{longest-low}
+use Rattle.figures.proofs.Charges.{longest-low}
 use Rattle.energy_rule.specs.Memory.{three}
 use Rattle.energy_rule.specs.Bounds.{Ranged}
 use Rattle.energy_rule.specs.Rule.{energies}
 use Rattle.energy_rule.proofs.Ruling.{energies-local, energies-keeps}
-use Rattle.structure.specs.Table.{view}
 use Rattle.energy_fill.proofs.columns.Statement.{statement}
 use Rattle.energy_fill.proofs.columns.Tie as tie
 

@@ -6,7 +6,7 @@ use borrow.Author.Needs.{needs}
 use denote.Ref.{now}
 use Rattle.structure.specs.Table.{view}
 use Rattle.ints.proofs.Ints.{ints, plain, back}
-use Rattle.charges.proofs.Charges.{figure-low}
+use Rattle.figures.proofs.Charges.{figure-low}
 use Rattle.charges.proofs.Charged.{own-in}
 use Rattle.charges.proofs.Openings.{close-pair, close-far}
 use Rattle.energy_rule.specs.Rule.{innerAt}

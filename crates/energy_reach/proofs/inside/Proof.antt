@@ -4,7 +4,7 @@ use Prim.Native.Nat.{suc, _+_, _-_, _≤_, min}
 use native.Mathlib.Omega.{arith}
 use borrow.Author.Needs.{needs}
 use Rattle.structure.specs.Table.{view}
-use Rattle.charges.specs.Figures.{longestSide}
+use Rattle.figures.specs.Figures.{longestSide}
 use Rattle.energy_rule.specs.Memory.{table}
 use Rattle.energy_reach.specs.Reach.{firstRow, innerRow, inside}
 use Rattle.energy_reach.proofs.Searching.{rows-end, rows-here, rows-next}

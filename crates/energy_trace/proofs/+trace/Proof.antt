@@ -6,14 +6,14 @@ use native.Mathlib.Omega.{arith}
 use borrow.Author.Needs.{needs}
 use borrow.Fn.Kinds.{In}
 use borrow.Fn.PlainCycle.{Measures, is, falls, and}
-use Rattle.charges.proofs.Charges.{longest-low}
+use Rattle.tables.proofs.join.Reads as join-reads
+use Rattle.figures.proofs.Charges.{longest-low}
 use Rattle.energy_trace.proofs.Moving.{Falls, move-falls, falls-go, falls-close, falls-twice}
 use Rattle.energy_trace.proofs.Tracing.{traced-stop, traced-go, traced-close, traced-twice}
 use Rattle.energy_trace.proofs.trace.Reads as trace
 use Rattle.energy_trace.proofs.trace.Kinds as trace-kinds
 use Rattle.energy_trace.proofs.+trace.Lts-trace as trace-lts
 use Rattle.energy_trace.proofs.choice.choose.Reads as choose-reads
-use Rattle.tables.proofs.join.Reads as join-reads
 use Rattle.energy_trace.proofs.+trace.{statement}
 use Rattle.energy_trace.proofs.+trace.Tie.{close}
 

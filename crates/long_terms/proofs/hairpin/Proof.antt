@@ -2,10 +2,10 @@
 use Prim.Native.Nat.{_≤_}
 use native.Mathlib.Omega.{arith}
 use lib.IntN.{ℤ, pos, negsuc, natAbs}
-use Rattle.charges.proofs.Charges.{fold-reach, hairpinOf-in, term-low}
-use Rattle.charges.specs.Charge.{hairpinOf, figureMost}
 use Rattle.ints.specs.Ints.{In}
 use Rattle.ints.proofs.Ints.{ints, is, le-up}
+use Rattle.figures.specs.Charge.{hairpinOf, figureMost}
+use Rattle.figures.proofs.Charges.{fold-reach, hairpinOf-in, term-low}
 use Rattle.long_terms.proofs.hairpin.Statement.{statement}
 use Rattle.long_terms.proofs.hairpin.Tie as tie
 

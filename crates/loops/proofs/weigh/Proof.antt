@@ -12,8 +12,8 @@ use Rattle.structure.specs.declared.Answer.the-variants.{Number}
 use Rattle.structure.specs.Table.{view, Sound}
 use Rattle.structure.proofs.Checking.{table-clear}
 use Rattle.queries.specs.Calls.{Counts}
+use Rattle.figures.proofs.Charges.{fold-reach}
 use Rattle.charges.specs.Loops.{firstBarred, Chargeable}
-use Rattle.charges.proofs.Charges.{fold-reach}
 use Rattle.charges.proofs.Barred.{barred-most, candidate}
 use Rattle.loops.proofs.weigh.Statement.{statement}
 use Rattle.loops.proofs.weigh.Tie as tie

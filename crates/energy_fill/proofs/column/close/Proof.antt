@@ -6,17 +6,17 @@ use native.Mathlib.Omega.{arith}
 use borrow.Author.Tests.{not-true, not-false}
 use borrow.Author.Needs.{needs}
 use denote.Ref.{now}
+use Rattle.structure.specs.Table.{view}
 use Rattle.cells.proofs.Places.{place-below}
+use Rattle.ints.specs.Ints.{minℤ, addE}
+use Rattle.ints.proofs.Ints.{ints, back, is}
+use Rattle.figures.specs.Figures.{smallestHairpin}
+use Rattle.figures.proofs.Charges.{longest-low}
 use Rattle.charges.specs.Loops.{mayClose}
-use Rattle.charges.specs.Figures.{smallestHairpin}
-use Rattle.charges.proofs.Charges.{longest-low}
 use Rattle.energy_rule.specs.Memory.{nums, table}
 use Rattle.energy_rule.specs.Rule.{closingCharge}
 use Rattle.energy_rule.proofs.Ruling.{paired-none}
 use Rattle.energy_rule.proofs.Parts.{may-far}
-use Rattle.ints.specs.Ints.{minℤ, addE}
-use Rattle.ints.proofs.Ints.{ints, back, is}
-use Rattle.structure.specs.Table.{view}
 use Rattle.energy_fill.proofs.Passes.{paired-some}
 use Rattle.energy_fill.proofs.Searching.{range-small}
 use Rattle.energy_fill.proofs.column.close.Statement.{statement}

@@ -1,11 +1,11 @@
 -- `energy_fill::column::rows` meets its contract: a column whose paired cells are written, and whose other two are started and settled, obeys the rule. Assumes nothing.
 use native.Mathlib.Omega.{arith}
 use borrow.Author.Needs.{needs}
-use Rattle.cells.proofs.Places.{tri-step}
-use Rattle.charges.proofs.Charges.{longest-low}
-use Rattle.energy_rule.specs.Memory.{nums}
-use Rattle.ints.proofs.Ints.{ints}
 use Rattle.structure.specs.Table.{view}
+use Rattle.cells.proofs.Places.{tri-step}
+use Rattle.ints.proofs.Ints.{ints}
+use Rattle.figures.proofs.Charges.{longest-low}
+use Rattle.energy_rule.specs.Memory.{nums}
 use Rattle.energy_fill.proofs.Ruled.{before-paired, before-arms, paired-smalls, arms-fine, any-fine, column-rows}
 use Rattle.energy_fill.proofs.column.rows.Statement.{statement}
 use Rattle.energy_fill.proofs.column.rows.Tie as tie

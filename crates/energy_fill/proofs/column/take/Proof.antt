@@ -7,10 +7,10 @@ use borrow.Author.Needs.{needs}
 use Rattle.cells.proofs.Fills.{put-set}
 use Rattle.cells.proofs.Passes.{tri-back}
 use Rattle.cells.proofs.Places.{tri-mono, tri-step}
-use Rattle.charges.proofs.Charges.{longest-low}
-use Rattle.energy_rule.specs.Memory.{nums}
 use Rattle.ints.specs.Ints.{Small}
 use Rattle.ints.proofs.Ints.{plain}
+use Rattle.figures.proofs.Charges.{longest-low}
+use Rattle.energy_rule.specs.Memory.{nums}
 use Rattle.energy_fill.proofs.Passes.{taken-far, taken-near}
 use Rattle.energy_fill.proofs.Searching.{range-small}
 use Rattle.energy_fill.proofs.column.take.Statement.{statement}

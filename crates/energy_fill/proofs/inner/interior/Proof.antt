@@ -4,13 +4,13 @@ use Prim.Native.Nat.{_+_, _<_}
 use native.Mathlib.Omega.{arith}
 use borrow.Author.Needs.{needs}
 use denote.Ref.{now}
-use Rattle.charges.specs.Figures.{smallestHairpin}
-use Rattle.charges.proofs.Charges.{longest-low}
-use Rattle.energy_rule.specs.Memory.{nums}
-use Rattle.energy_rule.proofs.Parts.{may-far}
+use Rattle.structure.specs.Table.{view}
 use Rattle.ints.specs.Ints.{minℤ}
 use Rattle.ints.proofs.Ints.{is}
-use Rattle.structure.specs.Table.{view}
+use Rattle.figures.specs.Figures.{smallestHairpin}
+use Rattle.figures.proofs.Charges.{longest-low}
+use Rattle.energy_rule.specs.Memory.{nums}
+use Rattle.energy_rule.proofs.Parts.{may-far}
 use Rattle.energy_fill.proofs.Searching.{search-is}
 use Rattle.energy_fill.proofs.inner.interior.Statement.{statement}
 use Rattle.energy_fill.proofs.inner.interior.Tie as tie

@@ -5,11 +5,11 @@ use native.Mathlib.Omega.{arith}
 use mir.Val.{toZ}
 use mir.Syntax.{w32}
 use Rattle.cells.specs.Tri.{place}
-use Rattle.charges.specs.Figures.{longestSide}
-use Rattle.charges.proofs.Charges.{longest-low}
-use Rattle.energy_rule.specs.Memory.{nums}
 use Rattle.ints.specs.Ints.{minFrom}
 use Rattle.ints.proofs.Ints.{plain}
+use Rattle.figures.specs.Figures.{longestSide}
+use Rattle.figures.proofs.Charges.{longest-low}
+use Rattle.energy_rule.specs.Memory.{nums}
 use Rattle.energy_fill.specs.Search.{side, near}
 use Rattle.energy_fill.proofs.Searching.{near-none, near-more, side-run, Ends, ends-at, side-room, side-most, side-smalls, side-charges, col-back, q-back, falls, next, same-count, at-end, long-enough, from-low}
 use Rattle.energy_fill.proofs.inner.near.Statement.{statement}
