@@ -4,21 +4,8 @@ ghost use mathlib.Core.Bool.{cond};
 ghost use Prim.Native.Nat.{_+_, _<_, _≤_};
 ghost use lib.Dec.{eqb};
 ghost use lib.ListN.{length};
-ghost use Rattle.structure.specs.Table.{unpaired, view, opens, Fold};
+ghost use Rattle.structure.specs.Table.{unpaired, view, Fold};
 ghost use Rattle.charges.specs.Loops.{armsIn, firstIn};
-
-// 1 where the entry v of position k opens a pair.
-pub fn opens(k: usize, v: u16) -> usize
-    ensures { λ r. ⌜ r ≡ opens k v ⌝ }
-{
-    if v == 65535 {
-        return 0;
-    }
-    if k < v as usize {
-        return 1;
-    }
-    0
-}
 
 // The place after position k, whose entry is v: after its partner where it has one.
 fn past(k: usize, v: u16) -> usize
@@ -40,7 +27,7 @@ pub fn arms_in(pairs: &[u16], lo: usize, hi: usize) -> usize
     let mut k = lo;
     while k < hi {
         let v = pairs[k];
-        arms += opens(k, v);
+        arms += structure::opening(k, v);
         k = past(k, v);
     }
     arms
@@ -53,7 +40,7 @@ pub fn first_in(pairs: &[u16], lo: usize, hi: usize) -> usize
 {
     let mut k = lo;
     while k < hi {
-        if opens(k, pairs[k]) == 1 {
+        if structure::opening(k, pairs[k]) == 1 {
             return k;
         }
         k += 1;

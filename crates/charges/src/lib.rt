@@ -41,7 +41,7 @@ fn bars(bases: &[u8], pairs: &[u16], i: usize) -> bool
     requires { ⌜ Sound (now pairs) × (length (now pairs) ≤ length (now bases)) × (i < length (now pairs)) ⌝ }
     ensures { λ r. ⌜ r ≡ bars (view (now (bases .entry))) (view (now (pairs .entry))) i ⌝ }
 {
-    if inner::opens(i, pairs[i]) == 1 {
+    if structure::opening(i, pairs[i]) == 1 {
         return !may_close(bases, i, pairs[i] as usize);
     }
     false
@@ -143,7 +143,7 @@ fn share(bases: &[u8], pairs: &[u16], i: usize) -> i32
     requires { ⌜ Chargeable (now bases) (now pairs) × (i < length (now pairs)) ⌝ }
     ensures { λ r. ⌜ r ≡ cond (opening i (view (now (pairs .entry)) i)) (chargeAt (view (now (bases .entry))) (view (now (pairs .entry))) i) (pos 0) ⌝ }
 {
-    if inner::opens(i, pairs[i]) == 1 {
+    if structure::opening(i, pairs[i]) == 1 {
         return charge_at(bases, pairs, i);
     }
     0

@@ -20,18 +20,18 @@ partner : (c : tie.Then1) → let a = c .before .before .before .before .before 
 partner c =
     let s = c .before .before .before .before .before in
     let a = s .args in
-    let o = opening-true (a .i) (view (now (a .pairs)) (a .i)) (eq-eqb _ 1 (sym (c .before .opens .ensures) ∙ c .if1 .taken)) in
+    let o = opening-true (a .i) (view (now (a .pairs)) (a .i)) (eq-eqb _ 1 (sym (c .before .opening .ensures) ∙ c .if1 .taken)) in
     let m = s .pre .0 .mate (a .i) (omega arith) (s .pre .2) (o .1) in
     (o .0, m .1)
 
-mul-opens : tie.Need-mul-opens
-mul-opens c = search needs
+mul-opening : tie.Need-mul-opening
+mul-opening c = search needs
 
-shared-slice-read-opens : tie.Need-shared-slice-read-opens
-shared-slice-read-opens c = search needs
+shared-slice-read-opening : tie.Need-shared-slice-read-opening
+shared-slice-read-opening c = search needs
 
-opens-requires : tie.Need-opens-requires
-opens-requires c κs = search needs
+opening-requires : tie.Need-opening-requires
+opening-requires c κs = search needs
 
 mul-may-close : tie.Need-mul-may-close
 mul-may-close c = search needs
@@ -48,19 +48,19 @@ may-close-requires c κs = let m = partner (c .before) in (omega arith, omega ar
 returns : tie.Need-returns
 unfolding bars
 returns c =
-    rw (eq-eqb _ 1 (sym (c .before .before .before .opens .ensures) ∙ c .before .before .if1 .taken)) (ap not (c .may-close .ensures))
+    rw (eq-eqb _ 1 (sym (c .before .before .before .opening .ensures) ∙ c .before .before .if1 .taken)) (ap not (c .may-close .ensures))
 
 returns-2 : tie.Need-returns-2
 unfolding bars
-returns-2 c = rw (ne-eqb _ 1 (λ q. c .if1 .left (c .before .opens .ensures ∙ q)))
+returns-2 c = rw (ne-eqb _ 1 (λ q. c .if1 .left (c .before .opening .ensures ∙ q)))
 
 pub bars-spec : {M : Type 1} → statement M
 bars-spec =
     tie.close
     (tie.spec
-    mul-opens
-    shared-slice-read-opens
-    opens-requires
+    mul-opening
+    shared-slice-read-opening
+    opening-requires
     mul-may-close
     shared-slice-read-may-close
     cast-may-close

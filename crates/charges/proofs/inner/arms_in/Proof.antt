@@ -24,8 +24,8 @@ mul-v c = omega arith
 shared-slice-read-v : tie.Need-shared-slice-read-v Inv-loop μ-loop
 shared-slice-read-v c = omega arith
 
-opens-requires : tie.Need-opens-requires Inv-loop μ-loop
-opens-requires c κs = tt
+opening-requires : tie.Need-opening-requires Inv-loop μ-loop
+opening-requires c κs = tt
 
 add-arms : tie.Need-add-arms Inv-loop μ-loop
 add-arms c =
@@ -33,7 +33,7 @@ add-arms c =
     let a = l .before .before .args in
     let p = view (a .pairs .now) in
     let s = step p (l .loop .inv .2) (omega arith) in
-    omega (arith, c .opens .ensures, s .count, arms-le p (a .lo) (a .hi))
+    omega (arith, c .opening .ensures, s .count, arms-le p (a .lo) (a .hi))
 
 past-requires : tie.Need-past-requires Inv-loop μ-loop
 past-requires c κs = let w = c .before .before .before .loop .inv .2 .fits in omega arith
@@ -49,7 +49,7 @@ loop-again c =
     let l = c .before .before .before .before in
     let a = l .before .before .args in
     let s = subst (Step (view (a .pairs .now)) (l .loop .k) (a .hi)) (sym (c .past .ensures)) (step (view (a .pairs .now)) (l .loop .inv .2) (omega arith)) in
-    (omega (arith, s .on), s .within, s .fold, omega (arith, c .before .opens .ensures, s .count))
+    (omega (arith, s .on), s .within, s .fold, omega (arith, c .before .opening .ensures, s .count))
 
 returns : tie.Need-returns Inv-loop μ-loop
 returns c =
@@ -66,7 +66,7 @@ arms-in-spec =
     loop-holds
     mul-v
     shared-slice-read-v
-    opens-requires
+    opening-requires
     add-arms
     past-requires
     loop-less

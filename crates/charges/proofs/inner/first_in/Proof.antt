@@ -19,20 +19,20 @@ abbrev μ-loop : tie.MeasureT-loop
 loop-holds : tie.Need-loop-holds Inv-loop μ-loop
 loop-holds c = (omega arith, omega arith, refl)
 
-mul-opens : tie.Need-mul-opens Inv-loop μ-loop
-mul-opens c = omega arith
+mul-opening : tie.Need-mul-opening Inv-loop μ-loop
+mul-opening c = omega arith
 
-shared-slice-read-opens : tie.Need-shared-slice-read-opens Inv-loop μ-loop
-shared-slice-read-opens c = omega arith
+shared-slice-read-opening : tie.Need-shared-slice-read-opening Inv-loop μ-loop
+shared-slice-read-opening c = omega arith
 
-opens-requires : tie.Need-opens-requires Inv-loop μ-loop
-opens-requires c κs = tt
+opening-requires : tie.Need-opening-requires Inv-loop μ-loop
+opening-requires c κs = tt
 
 returns : tie.Need-returns Inv-loop μ-loop
 returns c =
     let l = c .before .before .before .before in
     let a = l .before .before .args in
-    sym (first-here (view (a .pairs .now)) (l .loop .k) (a .hi) (omega arith) (eq-eqb _ 1 (sym (c .before .opens .ensures) ∙ c .if1 .taken))) ∙ l .loop .inv .2
+    sym (first-here (view (a .pairs .now)) (l .loop .k) (a .hi) (omega arith) (eq-eqb _ 1 (sym (c .before .opening .ensures) ∙ c .if1 .taken))) ∙ l .loop .inv .2
 
 add-k : tie.Need-add-k Inv-loop μ-loop
 add-k c = omega arith
@@ -45,7 +45,7 @@ loop-again c =
     let l = c .before .before .before .before in
     let a = l .before .before .args in
     let p = view (a .pairs .now) in
-    let e = first-next p (l .loop .k) (a .hi) (omega arith) (ne-eqb _ 1 (λ q. c .if1 .left (c .before .opens .ensures ∙ q))) in
+    let e = first-next p (l .loop .k) (a .hi) (omega arith) (ne-eqb _ 1 (λ q. c .if1 .left (c .before .opening .ensures ∙ q))) in
     (omega arith, omega arith, rw (add-one (l .loop .k)) (sym e ∙ l .loop .inv .2))
 
 returns-2 : tie.Need-returns-2 Inv-loop μ-loop
@@ -61,9 +61,9 @@ first-in-spec =
     Inv-loop
     μ-loop
     loop-holds
-    mul-opens
-    shared-slice-read-opens
-    opens-requires
+    mul-opening
+    shared-slice-read-opening
+    opening-requires
     returns
     add-k
     loop-less
