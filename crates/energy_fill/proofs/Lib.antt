@@ -1,4 +1,3 @@
--- The laws of the search for inner pairs (Searching), of the passes over a column (Passes), and what these make of it (Ruled).
-pub mod Searching
+-- The laws of the passes over a column (Passes), and what these make of it (Ruled).
 pub mod Passes
 pub mod Ruled

@@ -23,9 +23,9 @@ use Rattle.energy_rule.specs.Rule.{Table, closingCharge, armCharge, innerAt, lo
 use Rattle.energy_rule.specs.Bounds.{floor}
 use Rattle.energy_rule.proofs.Parts.{lowest-is, may-far, split-cap}
 use Rattle.energy_rule.proofs.Ruling.{floor-is}
-use Rattle.energy_fill.specs.Search.{InRange}
+use Rattle.energy_inner.specs.Search.{InRange}
+use Rattle.energy_inner.proofs.Searching.{min-glb}
 use Rattle.energy_fill.specs.Passes.{Started, closed, begun, link}
-use Rattle.energy_fill.proofs.Searching.{min-glb}
 
 -- ---- starting a column
 module _ (f g₀ : ℕ → ℤ) (j : ℕ) where

@@ -22,9 +22,9 @@ use Rattle.energy_rule.specs.Rule.{Table, Cell, armCharge, paired, any, armed, 
 use Rattle.energy_rule.specs.Bounds.{Ranged}
 use Rattle.energy_rule.proofs.Parts.{may-far}
 use Rattle.energy_rule.proofs.Ruling.{energies-one, energies-more, energies-keeps, triple, floor-is, paired-none}
-use Rattle.energy_fill.specs.Search.{InRange, InPaired, Smalls}
+use Rattle.energy_inner.specs.Search.{InRange, InPaired, Smalls}
+use Rattle.energy_inner.proofs.Searching.{range-small}
 use Rattle.energy_fill.specs.Passes.{Started, closed, begun, link}
-use Rattle.energy_fill.proofs.Searching.{range-small}
 use Rattle.energy_fill.proofs.Passes.{started-old, begun-one, begun-limit, begun-same, begun-range, gather-low, paired-before, arms-rule, any-rule}
 
 -- three tables by place, as one of triples

@@ -4,13 +4,13 @@ use mathlib.Core.List.{List}
 use Prim.Native.Nat.{ℕ, _≤_}
 use lib.IntN.{ℤ}
 use lib.ListN.{length}
+use Rattle.structure.specs.Table.{view}
 use Rattle.cells.specs.Tri.{tri}
 use Rattle.cells.specs.Rule.{Right}
 use Rattle.cells.specs.Fill.{at, Fine}
 use Rattle.energy_rule.specs.Rule.{energies}
 use Rattle.energy_rule.specs.Bounds.{Ranged}
 use Rattle.energy_rule.specs.Memory.{three}
-use Rattle.structure.specs.Table.{view}
 
 -- the cells of the first n bases of b are right and in range, and what is past them is left
 pub record Filled (b : List ℕ) (v w m v′ w′ m′ : List ℤ) (n : ℕ) : Type 0 where

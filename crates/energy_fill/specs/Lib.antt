@@ -1,4 +1,3 @@
 -- What the contracts of filling energy cells cite.
 pub mod Filled
 pub mod Passes
-pub mod Search

@@ -8,8 +8,8 @@ use lib.IntN.{ℤ}
 use Rattle.cells.specs.Tri.{tri}
 use Rattle.cells.specs.Rule.{Bases}
 use Rattle.cells.specs.Fill.{at}
-use Rattle.energy_rule.specs.Rule.{Table, paired}
 use Rattle.ints.specs.Ints.{minℤ, addE}
+use Rattle.energy_rule.specs.Rule.{Table, paired}
 
 -- n rows of column j hold f, and nothing else was written
 pub record Started (f : ℕ → ℤ) (g₀ g : ℕ → ℤ) (j n : ℕ) : Type 0 where

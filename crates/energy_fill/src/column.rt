@@ -12,7 +12,7 @@ ghost use Rattle.figures.specs.Sides.{Sides};
 ghost use Rattle.energy_rule.specs.Rule.{energies};
 ghost use Rattle.energy_rule.specs.Bounds.{Ranged};
 ghost use Rattle.energy_rule.specs.Memory.{nums, table, three, Room};
-ghost use Rattle.energy_fill.specs.Search.{InRange, Smalls, Before};
+ghost use Rattle.energy_inner.specs.Search.{InRange, Smalls, Before};
 ghost use Rattle.energy_fill.specs.Passes.{Started, closed, begun, link};
 
 // The least with i and j paired: a hairpin, one inner pair, or arms.
@@ -24,7 +24,7 @@ fn close(bases: &[u8], sides: &[i32], paired: &[i32], arms: &[i32], i: usize, j:
         return ints::MARK;
     }
     let hairpin = charges::hairpin_at(bases, i, j);
-    let interior = crate::inner::interior(bases, sides, paired, i, j);
+    let interior = energy_inner::interior(bases, sides, paired, i, j);
     let at = cells::place(i + 1, j - 1);
     let many = ints::plus(ints::cell(arms, at), figures::CLOSING as i32);
     ints::least(ints::least(hairpin, interior), many)

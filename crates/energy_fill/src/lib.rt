@@ -10,7 +10,6 @@ ghost use Rattle.energy_rule.specs.Memory.{three, Room};
 ghost use Rattle.energy_fill.specs.Filled.{Filled};
 
 mod column;
-mod inner;
 
 // Rewrites the columns from `first` to before `n`, each from row `top` or its last to row 0.
 pub fn columns(

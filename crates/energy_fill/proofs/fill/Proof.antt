@@ -2,13 +2,13 @@
 use native.Mathlib.Omega.{arith}
 use borrow.Author.Needs.{needs}
 use denote.Ref.{now}
+use Rattle.structure.specs.Table.{view}
 use Rattle.cells.specs.Fill.{at}
 use Rattle.cells.proofs.Fills.{else-filled, filled-right, columns-spare}
 use Rattle.energy_rule.specs.Memory.{three}
 use Rattle.energy_rule.specs.Bounds.{Ranged}
 use Rattle.energy_rule.specs.Rule.{energies}
 use Rattle.energy_rule.proofs.Ruling.{energies-local, energies-keeps}
-use Rattle.structure.specs.Table.{view}
 use Rattle.energy_fill.proofs.fill.Statement.{statement}
 use Rattle.energy_fill.proofs.fill.Tie as tie
 

@@ -8,9 +8,9 @@ use lib.ListN.{length, length-set}
 use lib.IntN.{ℤ, pos}
 use Rattle.cells.proofs.Fills.{put-set}
 use Rattle.cells.proofs.Places.{tri-step}
-use Rattle.energy_rule.specs.Memory.{nums, table}
 use Rattle.ints.specs.Ints.{minℤ, addE}
 use Rattle.ints.proofs.Ints.{ints, bk, plain, back, is}
+use Rattle.energy_rule.specs.Memory.{nums, table}
 use Rattle.energy_fill.specs.Passes.{Started, begun}
 use Rattle.energy_fill.proofs.Passes.{started-none, started-more, tri-wide, begun-by, begun-next}
 use Rattle.energy_fill.proofs.column.begin.Statement.{statement}

@@ -17,8 +17,8 @@ use Rattle.energy_rule.specs.Memory.{nums, table}
 use Rattle.energy_rule.specs.Rule.{closingCharge}
 use Rattle.energy_rule.proofs.Ruling.{paired-none}
 use Rattle.energy_rule.proofs.Parts.{may-far}
+use Rattle.energy_inner.proofs.Searching.{range-small}
 use Rattle.energy_fill.proofs.Passes.{paired-some}
-use Rattle.energy_fill.proofs.Searching.{range-small}
 use Rattle.energy_fill.proofs.column.close.Statement.{statement}
 use Rattle.energy_fill.proofs.column.close.Tie as tie
 

@@ -4,13 +4,13 @@ use Prim.Native.Nat.{_+_, _-_, _≤_}
 use native.Mathlib.Omega.{arith}
 use lib.ListN.{length, length-set}
 use lib.IntN.{pos}
+use Rattle.structure.specs.Table.{view}
 use Rattle.cells.proofs.Places.{tri-step}
 use Rattle.cells.proofs.Fills.{put-set}
-use Rattle.energy_rule.specs.Memory.{nums, table}
 use Rattle.ints.proofs.Ints.{is}
-use Rattle.structure.specs.Table.{view}
+use Rattle.energy_rule.specs.Memory.{nums, table}
+use Rattle.energy_inner.specs.Search.{InPaired}
 use Rattle.energy_fill.specs.Passes.{Started, closed}
-use Rattle.energy_fill.specs.Search.{InPaired}
 use Rattle.energy_fill.proofs.Passes.{started-none, started-fine, closed-more}
 use Rattle.energy_fill.proofs.column.close_all.Statement.{statement}
 use Rattle.energy_fill.proofs.column.close_all.Tie as tie

@@ -9,9 +9,9 @@ use lib.IntN.{ℤ, pos}
 use Rattle.cells.specs.Pass.{Raised}
 use Rattle.cells.proofs.Passes.{raised-none, raised-own}
 use Rattle.cells.proofs.Fills.{put-set}
-use Rattle.energy_rule.specs.Memory.{nums}
 use Rattle.ints.specs.Ints.{minℤ, addE}
 use Rattle.ints.proofs.Ints.{ints, bk, plain, back}
+use Rattle.energy_rule.specs.Memory.{nums}
 use Rattle.energy_fill.proofs.column.lower.Statement.{statement}
 use Rattle.energy_fill.proofs.column.lower.Tie as tie
 

@@ -7,11 +7,11 @@ use Rattle.cells.specs.Pass.{Settled}
 use Rattle.cells.specs.Tri.{tri}
 use Rattle.cells.proofs.Passes.{settled-none, settled-next, tri-back}
 use Rattle.cells.proofs.Places.{tri-step}
-use Rattle.energy_rule.specs.Memory.{nums}
 use Rattle.ints.specs.Ints.{minℤ}
 use Rattle.ints.proofs.Ints.{plain}
+use Rattle.energy_rule.specs.Memory.{nums}
+use Rattle.energy_inner.specs.Search.{InRange}
 use Rattle.energy_fill.specs.Passes.{link}
-use Rattle.energy_fill.specs.Search.{InRange}
 use Rattle.energy_fill.proofs.Passes.{range-step}
 use Rattle.energy_fill.proofs.column.settle.Statement.{statement}
 use Rattle.energy_fill.proofs.column.settle.Tie as tie

@@ -11,8 +11,8 @@ use Rattle.ints.specs.Ints.{Small}
 use Rattle.ints.proofs.Ints.{plain}
 use Rattle.figures.proofs.Charges.{longest-low}
 use Rattle.energy_rule.specs.Memory.{nums}
+use Rattle.energy_inner.proofs.Searching.{range-small}
 use Rattle.energy_fill.proofs.Passes.{taken-far, taken-near}
-use Rattle.energy_fill.proofs.Searching.{range-small}
 use Rattle.energy_fill.proofs.column.take.Statement.{statement}
 use Rattle.energy_fill.proofs.column.take.Tie as tie
 

@@ -1,17 +1,17 @@
--- `energy_fill::inner::run` meets its contract. The loop's invariant: best is the least of the candidates before `l`.
+-- `energy_inner::run` meets its contract. The loop's invariant: best is the least of the candidates before `l`.
 use mathlib.Core.Path.{_≡_, sym, ap, _∙_}
 use Prim.Native.Nat.{_-_, _≤_, max}
 use native.Mathlib.Omega.{arith}
 use mir.Val.{toZ}
 use mir.Syntax.{w32}
-use Rattle.energy_rule.specs.Memory.{nums}
 use Rattle.ints.specs.Ints.{minFrom}
 use Rattle.ints.proofs.Minima.{least-none}
 use Rattle.ints.proofs.Ints.{ints, plain, back}
-use Rattle.energy_fill.specs.Search.{charged}
-use Rattle.energy_fill.proofs.Searching.{run-more}
-use Rattle.energy_fill.proofs.inner.run.Statement.{statement}
-use Rattle.energy_fill.proofs.inner.run.Tie as tie
+use Rattle.energy_rule.specs.Memory.{nums}
+use Rattle.energy_inner.specs.Search.{charged}
+use Rattle.energy_inner.proofs.Searching.{run-more}
+use Rattle.energy_inner.proofs.run.Statement.{statement}
+use Rattle.energy_inner.proofs.run.Tie as tie
 
 abbrev Inv-loop : tie.InvT-loop
 Inv-loop paired sides from row lo hi best₀ l₀ best l =

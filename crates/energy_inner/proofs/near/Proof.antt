@@ -1,4 +1,4 @@
--- `energy_fill::inner::near` meets its contract. The loop's invariant: best is the least of the right sides before `r`, which ends at `q`; `col` is the place of (i + 1, q).
+-- `energy_inner::near` meets its contract. The loop's invariant: best is the least of the right sides before `r`, which ends at `q`; `col` is the place of (i + 1, q).
 use mathlib.Core.Path.{_≡_, ap, _∙_}
 use Prim.Native.Nat.{suc, _+_, _-_, _≤_, min}
 use native.Mathlib.Omega.{arith}
@@ -10,10 +10,10 @@ use Rattle.ints.proofs.Ints.{plain}
 use Rattle.figures.specs.Figures.{longestSide}
 use Rattle.figures.proofs.Charges.{longest-low}
 use Rattle.energy_rule.specs.Memory.{nums}
-use Rattle.energy_fill.specs.Search.{side, near}
-use Rattle.energy_fill.proofs.Searching.{near-none, near-more, side-run, Ends, ends-at, side-room, side-most, side-smalls, side-charges, col-back, q-back, falls, next, same-count, at-end, long-enough, from-low}
-use Rattle.energy_fill.proofs.inner.near.Statement.{statement}
-use Rattle.energy_fill.proofs.inner.near.Tie as tie
+use Rattle.energy_inner.specs.Search.{side, near}
+use Rattle.energy_inner.proofs.Searching.{near-none, near-more, side-run, Ends, ends-at, side-room, side-most, side-smalls, side-charges, col-back, q-back, falls, next, same-count, at-end, long-enough, from-low}
+use Rattle.energy_inner.proofs.near.Statement.{statement}
+use Rattle.energy_inner.proofs.near.Tie as tie
 
 abbrev Inv-loop : tie.InvT-loop
 Inv-loop paired sides i j low count best₀ r₀ q₀ col₀ best r q col =

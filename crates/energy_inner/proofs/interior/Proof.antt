@@ -1,4 +1,4 @@
--- `energy_fill::inner::interior` meets its contract: the four candidates together are the rule (`search-is`).
+-- `energy_inner::interior` meets its contract: the four candidates together are the rule (`search-is`).
 use mathlib.Core.Path.{ap₂, _∙_}
 use Prim.Native.Nat.{_+_, _<_}
 use native.Mathlib.Omega.{arith}
@@ -11,9 +11,9 @@ use Rattle.figures.specs.Figures.{smallestHairpin}
 use Rattle.figures.proofs.Charges.{longest-low}
 use Rattle.energy_rule.specs.Memory.{nums}
 use Rattle.energy_rule.proofs.Parts.{may-far}
-use Rattle.energy_fill.proofs.Searching.{search-is}
-use Rattle.energy_fill.proofs.inner.interior.Statement.{statement}
-use Rattle.energy_fill.proofs.inner.interior.Tie as tie
+use Rattle.energy_inner.proofs.Searching.{search-is}
+use Rattle.energy_inner.proofs.interior.Statement.{statement}
+use Rattle.energy_inner.proofs.interior.Tie as tie
 
 far : (c : tie.After-shared-slice-known) → c .before .args .i + smallestHairpin < c .before .args .j
 far c = may-far _ _ _ (c .before .pre .2)

@@ -12,7 +12,7 @@ ghost use Rattle.figures.specs.Sides.{Sides};
 ghost use Rattle.charges.specs.Loops.{mayClose};
 ghost use Rattle.energy_rule.specs.Rule.{innerAt, interior};
 ghost use Rattle.energy_rule.specs.Memory.{nums, table};
-ghost use Rattle.energy_fill.specs.Search.{InRange, Smalls, Charge, charged, near, Before};
+ghost use Rattle.energy_inner.specs.Search.{InRange, Smalls, Charge, charged, near, Before};
 
 // By how much a is above b.
 fn above(a: usize, b: usize) -> usize

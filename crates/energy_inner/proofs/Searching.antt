@@ -26,7 +26,7 @@ use Rattle.energy_rule.specs.Rule.{Table, innerAt, interior}
 use Rattle.energy_rule.specs.Memory.{nums}
 use Rattle.energy_rule.proofs.Parts.{interior-le, interior-real}
 use Rattle.energy_rule.proofs.Ruling.{floor-is}
-use Rattle.energy_fill.specs.Search.{InRange, InPaired, Smalls, Charge, charged, lowEnd, sideTo, side, near}
+use Rattle.energy_inner.specs.Search.{InRange, InPaired, Smalls, Charge, charged, lowEnd, sideTo, side, near}
 
 -- what is in range may stand in a sum
 pub range-small : (i j : ℕ) (z : ℤ) → j < longest + 2 → InRange i j z → Small z

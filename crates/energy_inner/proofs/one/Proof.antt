@@ -1,4 +1,4 @@
--- `energy_fill::inner::one` meets its contract: each way is a law of `innerAt`.
+-- `energy_inner::one` meets its contract: each way is a law of `innerAt`.
 use mathlib.Core.Path.{_≡_, sym, ap, _∙_}
 use native.Mathlib.Omega.{arith}
 use borrow.Author.Tests.{not-true, not-false}
@@ -11,9 +11,9 @@ use Rattle.figures.proofs.Charges.{figure-low, longest-low}
 use Rattle.charges.proofs.Openings.{close-pair}
 use Rattle.charges.proofs.Charged.{own-in}
 use Rattle.energy_rule.specs.Memory.{nums, table}
-use Rattle.energy_fill.proofs.Searching.{range-small, inner-none, inner-some}
-use Rattle.energy_fill.proofs.inner.one.Statement.{statement}
-use Rattle.energy_fill.proofs.inner.one.Tie as tie
+use Rattle.energy_inner.proofs.Searching.{range-small, inner-none, inner-some}
+use Rattle.energy_inner.proofs.one.Statement.{statement}
+use Rattle.energy_inner.proofs.one.Tie as tie
 
 may-close-requires : tie.Need-may-close-requires
 may-close-requires c κs = search needs

@@ -1,0 +1,2 @@
+-- The search by runs is the rule's.
+pub mod Searching
