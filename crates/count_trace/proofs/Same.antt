@@ -10,25 +10,19 @@ use borrow.Author.Tests.{lt-ltb}
 use lib.Dec.{eqb, ltb}
 use lib.ListN.{length}
 use Rattle.bases.specs.Bases.{canPair}
-use Rattle.cells.specs.Rule.{Cells, span}
-use Rattle.cells.specs.Fill.{at}
 use Rattle.structure.specs.Table.{view}
 use Rattle.tables.specs.Writing.{cleared}
 use Rattle.tables.proofs.Agreeing.{Agree, agree-joined, agree-cleared}
-use Rattle.count_rule.specs.Rule.{mayPair}
+use Rattle.searches.proofs.First.{first-same}
+use Rattle.cells.specs.Rule.{Cells, span}
+use Rattle.cells.specs.Fill.{at}
 use Rattle.cells.proofs.Spans.{span-some, span-none}
-use Rattle.count_trace.specs.Choosing.{firstOf, closesOf, splitAt, splitOf, orLast, choice}
+use Rattle.count_rule.specs.Rule.{mayPair}
+use Rattle.count_trace.specs.Choosing.{closesOf, splitAt, splitOf, orLast, choice}
 use Rattle.count_trace.specs.Trace.{step, traceOf, tracedOf}
 use Rattle.count_trace.specs.declared.choice.Choice.{Choice}
 use Rattle.count_trace.specs.declared.choice.Choice.the-variants.{FirstUnpaired, Paired, Split, LastUnpaired}
-use Rattle.count_trace.specs.declared.choice.Found.the-variants.{After}
 use Rattle.count_trace.proofs.Choosing.{split-inside}
-
-first-same : (test test′ : ℕ → Bool) (m k : ℕ) → ((x : ℕ) → k ≤ x → x < k + m → test x ≡ test′ x) → firstOf test k m ≡ firstOf test′ k m
-unfolding firstOf
-first-same test test′ zero k e = refl
-first-same test test′ (suc m) k e =
-    λ i. cond (e k (omega arith) (omega arith) i) (After k) (first-same test test′ m (k + 1) (λ x p q. e x (omega arith) (omega arith)) i)
 
 -- one step, with the same choice
 step-same :

@@ -1,11 +1,12 @@
 // What the traceback takes at a span: the first, in the rules' order, of what reaches the cell's value.
+use searches::Found;
 ghost use mathlib.Core.Path.{_≡_};
 ghost use Prim.Native.Nat.{_+_, _≤_, _<_};
 ghost use lib.ListN.{length};
+ghost use Rattle.structure.specs.Table.{view};
 ghost use Rattle.cells.specs.Tri.{tri, place};
 ghost use Rattle.cells.specs.Rule.{span};
 ghost use Rattle.cells.specs.Fill.{at};
-ghost use Rattle.structure.specs.Table.{view};
 ghost use Rattle.count_rule.specs.Rule.{mayPair};
 ghost use Rattle.count_trace.specs.Choosing.{closesOf, splitOf, choice};
 
@@ -15,12 +16,6 @@ pub enum Choice {
     Paired,
     Split(usize),
     LastUnpaired,
-}
-
-// What the search for a split finds.
-pub enum Found {
-    After(usize),
-    Nowhere,
 }
 
 // The first of the four that reaches the value of the cell (i, j).
@@ -36,8 +31,8 @@ pub fn choose(bases: &[u8], cells: &[u16], gap: usize, i: usize, j: usize) -> Ch
         return Choice::Paired;
     }
     match split(cells, i, j, count) {
-        Found::After(k) => Choice::Split(k),
-        Found::Nowhere => Choice::LastUnpaired,
+        Found::At(k) => Choice::Split(k),
+        Found::Nothing => Choice::LastUnpaired,
     }
 }
 
@@ -61,11 +56,11 @@ fn split(cells: &[u16], i: usize, j: usize, count: usize) -> Found
     let mut k = i + 1;
     while k < j {
         if cell(cells, i, k) + cell(cells, k + 1, j) == count {
-            return Found::After(k);
+            return Found::At(k);
         }
         k += 1;
     }
-    Found::Nowhere
+    Found::Nothing
 }
 
 // The count between i and j: 0 where they are neighbours.

@@ -1,55 +1,20 @@
 -- Searches as loops make them, what they say of their tests, and where lies what they find. Assumes nothing.
 use mathlib.Core.Path.{_≡_, refl, ap, subst, _∙_}
 use mathlib.Core.Logic.{by-cases}
-use mathlib.Core.Bool.{Bool, true, false, cond}
+use mathlib.Core.Bool.{Bool}
 use Prim.Native.Nat.{ℕ, zero, suc, _+_, _-_, _<_, _≤_, min}
 use native.Mathlib.Decide.{ℕ-discrete}
 use native.Mathlib.Omega.{arith}
+use Rattle.searches.specs.declared.Found.{Found}
+use Rattle.searches.specs.declared.Found.the-variants.{At, Nothing}
+use Rattle.searches.proofs.First.{Sought, hit, sought}
 use Rattle.cells.specs.Rule.{Bases}
-use Rattle.ints.proofs.Ints.{either}
 use Rattle.figures.specs.Figures.{longestSide}
 use Rattle.energy_rule.specs.Rule.{Table, lowest}
 use Rattle.energy_rule.proofs.Parts.{lowest-is}
-use Rattle.energy_reach.specs.Reach.{firstOf, orElse, firstRow, splitAt, splitting, reaches, innerRow, inside}
-use Rattle.energy_reach.specs.declared.Found.{Found}
-use Rattle.energy_reach.specs.declared.Found.the-variants.{At, Nothing}
+use Rattle.energy_reach.specs.Reach.{orElse, firstRow, splitAt, splitting, reaches, innerRow, inside}
 use Rattle.energy_reach.specs.declared.Within.{Within}
 use Rattle.energy_reach.specs.declared.Within.the-variants.{Pair, Nowhere}
-
--- ---- along places: at k, of what is left before j; r is what the test answers there
-module _ (test : ℕ → Bool) where
-  first-none : (k : ℕ) {m : ℕ} → m ≡ 0 → firstOf test k m ≡ Nothing
-  unfolding firstOf
-  first-none k e = rw e
-
-  first-more : (k : ℕ) {m l : ℕ} → m ≡ suc l → firstOf test k m ≡ cond (test k) (At k) (firstOf test (k + 1) l)
-  unfolding firstOf
-  first-more k e = rw e
-
-  pub first-end : (k j : ℕ) → j ≤ k → firstOf test k (j - k) ≡ Nothing
-  first-end k j h = first-none k (omega arith)
-
-  module _ (k j : ℕ) (h : k < j) {r : Bool} (e : r ≡ test k) where
-    pub first-here : r ≡ true → firstOf test k (j - k) ≡ At k
-    first-here q = first-more k {l = j - (k + 1)} (omega arith) ∙ simp (← e, q)
-
-    pub first-next : r ≡ false → firstOf test k (j - k) ≡ firstOf test (k + 1) (j - (k + 1))
-    first-next q = first-more k {l = j - (k + 1)} (omega arith) ∙ simp (← e, q)
-
--- what was found passes, and is among the n numbers from k on; where nothing was, none passes
-pub data Sought (test : ℕ → Bool) (k n : ℕ) : Found → Type 0 where
-  hit : {x : ℕ} → k ≤ x → x < k + n → test x ≡ true → Sought test k n (At x)
-  miss : ((x : ℕ) → k ≤ x → x < k + n → test x ≡ false) → Sought test k n Nothing
-
-sought-next : {test : ℕ → Bool} {k n : ℕ} {f : Found} → test k ≡ false → Sought test (k + 1) n f → Sought test k (suc n) f
-sought-next {test} {k} {n} e (hit {x} a c d) = hit {x = x} (omega arith) (omega arith) d
-sought-next {test} {k} {n} e (miss f) = miss (λ x a c. by-cases (ℕ-discrete x k) (λ q. ap test q ∙ e) (λ q. f x (omega arith) (omega arith)))
-
-pub sought : (test : ℕ → Bool) (n k : ℕ) → Sought test k n (firstOf test k n)
-unfolding firstOf
-sought test zero k = miss (λ x a c. absurd (omega arith))
-sought test (suc n) k =
-    either (test k) (λ e. rw e (hit {x = k} (omega arith) (omega arith) e)) (λ e. rw e (sought-next e (sought test n (k + 1))))
 
 -- ---- along rows: at k, of what is left before j; r is what its row finds
 module _ (row : ℕ → Found) where

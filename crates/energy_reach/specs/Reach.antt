@@ -1,18 +1,19 @@
 -- What reaches the value of a cell: v and c are tables of cells, b bases. Assumes nothing: these are definitions.
-use mathlib.Core.Bool.{Bool, cond, _&&_}
+use mathlib.Core.Bool.{Bool, _&&_}
 use mathlib.Core.List.{List}
 use Prim.Native.Nat.{ℕ, zero, suc, _+_, _-_, _≤_, _<_, min}
 use lib.IntN.{ℤ}
 use lib.ListN.{length}
 use lib.Signed.{leZ}
+use Rattle.searches.specs.First.{firstOf}
+use Rattle.searches.specs.declared.Found.{Found}
+use Rattle.searches.specs.declared.Found.the-variants.{At, Nothing}
 use Rattle.cells.specs.Tri.{tri}
 use Rattle.cells.specs.Rule.{Bases}
 use Rattle.ints.specs.Ints.{addE, Small}
 use Rattle.figures.specs.Figures.{longest, longestSide}
 use Rattle.energy_rule.specs.Rule.{Table, innerAt, lowest}
 use Rattle.energy_rule.specs.Memory.{table}
-use Rattle.energy_reach.specs.declared.Found.{Found}
-use Rattle.energy_reach.specs.declared.Found.the-variants.{At, Nothing}
 use Rattle.energy_reach.specs.declared.Within.{Within}
 use Rattle.energy_reach.specs.declared.Within.the-variants.{Pair, Nowhere}
 
@@ -21,11 +22,6 @@ unfoldable pub same : ℤ → ℤ → Bool
 same a b = leZ a b && leZ b a
 
 -- ---- searches
--- the first of n numbers from k on that passes the test
-unfoldable pub firstOf : (ℕ → Bool) → ℕ → ℕ → Found
-firstOf test k zero = Nothing
-firstOf test k (suc n) = cond (test k) (At k) (firstOf test (k + 1) n)
-
 -- what was found from x, or what is found later
 abbrev pub orElse : ℕ → Found → Within → Within
 orElse x (At y) later = Pair x y

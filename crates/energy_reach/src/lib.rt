@@ -4,6 +4,7 @@ use figures::CLOSING;
 use figures::LONGEST_SIDE;
 use figures::SMALLEST_HAIRPIN;
 use ints::MARK;
+use searches::Found;
 ghost use mathlib.Core.Path.{_≡_};
 ghost use mathlib.Core.Bool.{true};
 ghost use Prim.Native.Nat.{suc, _+_, _-_, _≤_, _<_};
@@ -20,12 +21,6 @@ ghost use Rattle.energy_reach.specs.Reach.{same, splitAt, splitting, rea
 
 // How far apart the places of an inner pair are at least: a hairpin has room between them.
 const NEAREST: usize = SMALLEST_HAIRPIN + 1;
-
-// What a search along places finds.
-pub enum Found {
-    At(usize),
-    Nothing,
-}
 
 // What the search for an inner pair finds.
 pub enum Within {

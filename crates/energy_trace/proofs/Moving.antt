@@ -7,6 +7,8 @@ use borrow.Author.Tests.{ltb-true}
 use lib.Dec.{ltb}
 use lib.IntN.{pos}
 use lib.Signed.{ltZ}
+use Rattle.searches.specs.declared.Found.{Found}
+use Rattle.searches.specs.declared.Found.the-variants.{At, Nothing}
 use Rattle.cells.specs.Rule.{Bases}
 use Rattle.ints.specs.Ints.{mark, addE}
 use Rattle.ints.proofs.Ints.{either}
@@ -14,8 +16,6 @@ use Rattle.charges.specs.Loops.{mayClose, hairpinAt}
 use Rattle.charges.proofs.Openings.{close-far}
 use Rattle.energy_rule.specs.Rule.{Table, closingCharge, armCharge}
 use Rattle.energy_reach.specs.Reach.{same, splitting, reaches, inside}
-use Rattle.energy_reach.specs.declared.Found.{Found}
-use Rattle.energy_reach.specs.declared.Found.the-variants.{At, Nothing}
 use Rattle.energy_reach.specs.declared.Within.{Within}
 use Rattle.energy_reach.specs.declared.Within.the-variants.{Pair, Nowhere}
 use Rattle.energy_reach.proofs.Searching.{splitting-in, inside-in}

@@ -15,6 +15,9 @@ use lib.ListN.{length}
 use Rattle.structure.specs.Table.{unpaired, view}
 use Rattle.tables.specs.Writing.{cleared, joined, Blank}
 use Rattle.tables.proofs.Written.{cleared-long, cleared-below, joined-long}
+use Rattle.searches.specs.declared.Found.{Found}
+use Rattle.searches.specs.declared.Found.the-variants.{At, Nothing}
+use Rattle.searches.proofs.First.{Sought, hit, miss, sought}
 use Rattle.cells.specs.Rule.{Bases, Right}
 use Rattle.cells.specs.Fill.{at}
 use Rattle.ints.specs.Ints.{mark, addE}
@@ -33,11 +36,9 @@ use Rattle.energy_rule.proofs.Laws.{Ruled, right-ruled, real-may, v-real, v-ste
 use Rattle.energy_rule.proofs.Steps.{any-bare, any-skip, any-last, any-pair, any-split, arms-skip, arms-last, arms-helix, arms-split, blank-joined, pair-hairpin, pair-inner, pair-arms}
 use Rattle.energy_rule.proofs.Built.{any-exact}
 use Rattle.energy_reach.specs.Reach.{same, splitAt, splitting, reaches, innerRow, inside}
-use Rattle.energy_reach.specs.declared.Found.{Found}
-use Rattle.energy_reach.specs.declared.Found.the-variants.{At, Nothing}
 use Rattle.energy_reach.specs.declared.Within.{Within}
 use Rattle.energy_reach.specs.declared.Within.the-variants.{Pair, Nowhere}
-use Rattle.energy_reach.proofs.Searching.{Sought, hit, miss, sought, Scanned, hits, misses, scanned}
+use Rattle.energy_reach.proofs.Searching.{Scanned, hits, misses, scanned}
 use Rattle.energy_trace.specs.Choosing.{orSplit, shorter, anyMove, armsMove, orArms, closedMove, moveOf}
 use Rattle.energy_trace.specs.Trace.{act, traceOf, tracedOf}
 use Rattle.energy_trace.specs.declared.choice.Job.{Job}

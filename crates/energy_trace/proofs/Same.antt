@@ -1,7 +1,7 @@
 -- The traceback depends on the first n bases and the cells of these alone. Assumes nothing.
 use mathlib.Core.Path.{_≡_, refl, ap, ap₂, subst, _∙_}
 use mathlib.Core.Logic.{by-cases}
-use mathlib.Core.Bool.{Bool, cond}
+use mathlib.Core.Bool.{cond}
 use mathlib.Core.List.{List}
 use Prim.Native.Nat.{ℕ, zero, suc, _+_, _-_, _≤_, _<_, min}
 use native.Mathlib.Decide.{decLt}
@@ -13,6 +13,8 @@ use lib.Signed.{ltZ}
 use Rattle.structure.specs.Table.{view}
 use Rattle.tables.specs.Writing.{cleared}
 use Rattle.tables.proofs.Agreeing.{Agree, agree-joined, agree-cleared}
+use Rattle.searches.specs.declared.Found.{Found}
+use Rattle.searches.proofs.First.{first-same}
 use Rattle.cells.specs.Rule.{Bases, SameBases}
 use Rattle.cells.specs.Fill.{at}
 use Rattle.ints.specs.Ints.{mark, addE}
@@ -23,9 +25,7 @@ use Rattle.energy_rule.specs.Rule.{Table, Cell, closingCharge, armCharge, inner
 use Rattle.energy_rule.specs.Memory.{table, three}
 use Rattle.energy_rule.proofs.Parts.{lowest-is, may-far}
 use Rattle.energy_rule.proofs.Ruling.{may-local, own-local, hairpin-local}
-use Rattle.energy_reach.specs.Reach.{same, firstOf, orElse, firstRow, splitAt, splitting, reaches, innerRow, inside}
-use Rattle.energy_reach.specs.declared.Found.{Found}
-use Rattle.energy_reach.specs.declared.Found.the-variants.{At}
+use Rattle.energy_reach.specs.Reach.{same, orElse, firstRow, splitAt, splitting, reaches, innerRow, inside}
 use Rattle.energy_reach.specs.declared.Within.{Within}
 use Rattle.energy_reach.specs.declared.Within.the-variants.{Pair, Nowhere}
 use Rattle.energy_trace.specs.Choosing.{orSplit, shorter, anyMove, armsMove, orArms, closedMove, moveOf}
@@ -37,12 +37,6 @@ use Rattle.energy_trace.specs.declared.choice.Move.the-variants.{Stop, G
 use Rattle.energy_trace.proofs.Moving.{Falls, stops, goes, closes, parts, move-falls}
 
 -- ---- searches
-first-same : (test test′ : ℕ → Bool) (m k : ℕ) → ((x : ℕ) → k ≤ x → x < k + m → test x ≡ test′ x) → firstOf test k m ≡ firstOf test′ k m
-unfolding firstOf
-first-same test test′ zero k e = refl
-first-same test test′ (suc m) k e =
-    λ i. cond (e k (omega arith) (omega arith) i) (At k) (first-same test test′ m (k + 1) (λ x p q. e x (omega arith) (omega arith)) i)
-
 rows-same : (row row′ : ℕ → Found) (m k : ℕ) → ((x : ℕ) → k ≤ x → x < k + m → row x ≡ row′ x) → firstRow row k m ≡ firstRow row′ k m
 unfolding firstRow
 rows-same row row′ zero k e = refl

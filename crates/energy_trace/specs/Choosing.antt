@@ -5,13 +5,13 @@ use Prim.Native.Nat.{ℕ, _+_, _-_}
 use lib.Dec.{ltb}
 use lib.IntN.{pos}
 use lib.Signed.{ltZ}
+use Rattle.searches.specs.declared.Found.{Found}
+use Rattle.searches.specs.declared.Found.the-variants.{At, Nothing}
 use Rattle.cells.specs.Rule.{Bases}
 use Rattle.ints.specs.Ints.{mark, addE}
 use Rattle.charges.specs.Loops.{mayClose, hairpinAt}
 use Rattle.energy_rule.specs.Rule.{Table, closingCharge, armCharge}
 use Rattle.energy_reach.specs.Reach.{same, splitting, reaches, inside}
-use Rattle.energy_reach.specs.declared.Found.{Found}
-use Rattle.energy_reach.specs.declared.Found.the-variants.{At, Nothing}
 use Rattle.energy_reach.specs.declared.Within.{Within}
 use Rattle.energy_reach.specs.declared.Within.the-variants.{Pair, Nowhere}
 use Rattle.energy_trace.specs.declared.choice.Job.{Job}

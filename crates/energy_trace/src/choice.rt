@@ -1,6 +1,6 @@
 // What a traceback takes at a span: the first, in the original's order, of what reaches the cell's value.
-use energy_reach::Found;
 use energy_reach::Within;
+use searches::Found;
 ghost use mathlib.Core.Path.{_≡_};
 ghost use Prim.Native.Nat.{_+_, _-_, _<_};
 ghost use lib.ListN.{length};

@@ -14,12 +14,13 @@ use Rattle.structure.specs.declared.Answer.the-variants.{Number, Refused}
 use Rattle.structure.specs.Table.{unpaired}
 use Rattle.brackets.specs.Brackets.{glyphs, brackets}
 use Rattle.brackets.specs.Text.{textDue, unmatched}
+use Rattle.searches.specs.First.{firstOf}
 use Rattle.sequences.specs.Sequences.{basesDue}
 use Rattle.cells.specs.Tri.{tri}
 use Rattle.cells.specs.Rule.{span}
 use Rattle.cells.specs.Solve.{every}
 use Rattle.count_rule.specs.Rule.{mayPair, best, paired, split, nussinov}
-use Rattle.count_trace.specs.Choosing.{firstOf, closesOf, splitAt, splitOf, choice}
+use Rattle.count_trace.specs.Choosing.{closesOf, splitAt, splitOf, choice}
 use Rattle.count_trace.specs.Trace.{traceOf, tracedOf}
 use Rattle.counting.specs.Calls.{countOf}
 use Rattle.charges.proofs.KindTable.{Every}

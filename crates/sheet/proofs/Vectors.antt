@@ -9,6 +9,7 @@ use lib.ListN.{replicate}
 use Rattle.bases.specs.Bases.{reads, noBase, normal, canPair, pairIndex, isPurine}
 use Rattle.structure.specs.Table.{unpaired}
 use Rattle.brackets.specs.Brackets.{glyphs, brackets}
+use Rattle.searches.specs.First.{firstOf}
 use Rattle.sequences.specs.Sequences.{basesDue}
 use Rattle.cells.specs.Tri.{tri}
 use Rattle.cells.specs.Solve.{every}
@@ -17,7 +18,7 @@ use Rattle.figures.specs.Figures as fig
 use Rattle.figures.specs.Charge.{hairpin, mismatch, bulge, internal, stack, long, sized, hairpinOf, stackAt, bulgeOf, slant, internalOf, manyOf, between}
 use Rattle.charges.specs.Loops.{mayClose, arms, first, own, single, kindBy, kind, purines, hairpinAt, chargeBy, chargeAt, total}
 use Rattle.energy_rule.specs.Rule.{innerAt, lowest, innerFrom, interior, paired, splits, any, armed, energies}
-use Rattle.energy_reach.specs.Reach.{same, firstOf, firstRow, splitAt, splitting, reaches, innerRow, inside}
+use Rattle.energy_reach.specs.Reach.{same, firstRow, splitAt, splitting, reaches, innerRow, inside}
 use Rattle.energy_trace.specs.Choosing.{shorter, anyMove, armsMove, closedMove, moveOf}
 use Rattle.energy_trace.specs.Trace.{traceOf, tracedOf}
 use Rattle.energy.specs.Calls.{energyAt}

@@ -3,11 +3,12 @@ use mathlib.Core.Path.{_≡_, sym, ap, _∙_}
 use Prim.Native.Nat.{ℕ, _-_, _≤_}
 use native.Mathlib.Omega.{arith}
 use Rattle.structure.specs.Table.{view}
+use Rattle.searches.specs.First.{firstOf}
+use Rattle.searches.proofs.First.{first-end, first-here, first-next}
 use Rattle.energy_rule.specs.Rule.{lowest}
 use Rattle.energy_rule.specs.Memory.{table}
 use Rattle.energy_rule.proofs.Parts.{lowest-is}
-use Rattle.energy_reach.specs.Reach.{firstOf, reaches, innerRow}
-use Rattle.energy_reach.proofs.Searching.{first-end, first-here, first-next}
+use Rattle.energy_reach.specs.Reach.{reaches, innerRow}
 use Rattle.energy_reach.proofs.inner_row.Statement.{statement}
 use Rattle.energy_reach.proofs.inner_row.Tie as tie
 

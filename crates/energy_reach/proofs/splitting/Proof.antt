@@ -2,10 +2,11 @@
 use mathlib.Core.Path.{_≡_, refl, sym, _∙_}
 use Prim.Native.Nat.{_+_, _-_, _≤_}
 use native.Mathlib.Omega.{arith}
+use Rattle.searches.specs.First.{firstOf}
+use Rattle.searches.proofs.First.{first-end, first-here, first-next}
 use Rattle.figures.proofs.Charges.{longest-low}
 use Rattle.energy_rule.specs.Memory.{table}
-use Rattle.energy_reach.specs.Reach.{firstOf, splitAt, splitting}
-use Rattle.energy_reach.proofs.Searching.{first-end, first-here, first-next}
+use Rattle.energy_reach.specs.Reach.{splitAt, splitting}
 use Rattle.energy_reach.proofs.splitting.Statement.{statement}
 use Rattle.energy_reach.proofs.splitting.Tie as tie
 

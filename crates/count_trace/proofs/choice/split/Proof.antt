@@ -4,11 +4,12 @@ use mathlib.Core.Path.{_≡_, refl, sym, _∙_}
 use Prim.Native.Nat.{_+_, _-_, _<_, _≤_}
 use native.Mathlib.Omega.{arith}
 use borrow.Author.Tests.{eq-eqb, ne-eqb}
+use Rattle.structure.specs.Table.{view}
+use Rattle.searches.specs.First.{firstOf}
+use Rattle.searches.proofs.First.{first-end, first-here, first-next}
 use Rattle.cells.specs.Fill.{at}
 use Rattle.cells.proofs.Places.{place-below}
-use Rattle.structure.specs.Table.{view}
-use Rattle.count_trace.specs.Choosing.{firstOf, splitAt, splitOf}
-use Rattle.count_trace.proofs.Choosing.{first-end, first-here, first-next}
+use Rattle.count_trace.specs.Choosing.{splitAt, splitOf}
 use Rattle.count_trace.proofs.choice.split.Statement.{statement}
 use Rattle.count_trace.proofs.choice.split.Tie as tie
 
@@ -50,7 +51,7 @@ returns c =
     let l = c .before .before .before in
     sym
     (l .before .loop .inv .2
-    ∙ first-here _ _ _ (l .loop-test .taken)
+    ∙ first-here _ _ _ (l .loop-test .taken) refl
     (simp (← c .before .cell2 .ensures .0, ← c .before .before .cell .ensures .0) (eq-eqb _ _ (c .if1 .taken))))
 
 add-k-2 : tie.Need-add-k-2 Inv-loop μ-loop
@@ -66,7 +67,7 @@ loop-again c =
       omega arith,
       omega arith,
       l .before .loop .inv .2
-          ∙ first-next _ _ _ (l .loop-test .taken)
+          ∙ first-next _ _ _ (l .loop-test .taken) refl
           (simp (← c .before .cell2 .ensures .0, ← c .before .before .cell .ensures .0) (ne-eqb _ _ (c .if1 .left))),
     )
 

@@ -1,0 +1,2 @@
+-- The laws of searches.
+pub mod First

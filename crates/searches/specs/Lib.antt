@@ -1,0 +1,2 @@
+-- What the contracts of every search cite.
+pub mod First
