@@ -14,8 +14,10 @@ use Rattle.structure.proofs.Checking.{clear-table}
 use Rattle.sequences.proofs.Spared.{letters-spared, letters-front}
 use Rattle.cells.specs.Rule.{Right}
 use Rattle.cells.specs.Fill.{at}
+use Rattle.ints.specs.Ints.{Small}
 use Rattle.figures.proofs.Charges.{fold-reach}
-use Rattle.charges.specs.Loops.{Candidate}
+use Rattle.charges.specs.Loops.{Candidate, Chargeable}
+use Rattle.charges.proofs.Openings.{total-small}
 use Rattle.energy_rule.specs.Rule.{energies}
 use Rattle.energy_rule.specs.Bounds.{Believable}
 use Rattle.energy_rule.specs.Meaning.{Meant}
@@ -25,6 +27,7 @@ use Rattle.energy_rule.proofs.Meaning as meaning
 use Rattle.energy_rule.proofs.Bounds as bounds
 use Rattle.energy_trace.specs.Trace.{tracedOf}
 use Rattle.energy_trace.proofs.Whole.{Cheapest, traced-cheapest, cheapest-same}
+use Rattle.energy.specs.declared.Minimum.{Minimum}
 use Rattle.energy.specs.declared.Minimum.the-variants.{Energy}
 use Rattle.energy.specs.Calls.{energyAt, Folds}
 use Rattle.energy.specs.Minimal.{Minimal}
@@ -78,3 +81,19 @@ module _ (s b b′ : List ℕ) (v w m v′ w′ m′ : List ℤ) (o o′ : List 
       let g = least-energy in
       let u = foldable s b v w m o (f .0) in
       clear-table (take (length s) o′) (omega (arith, g .possible .0, u .short)) (g .sound)
+
+-- an energy that was answered may stand in sums: it is what its structure costs, and no structure of so few bases costs more
+pub energy-small :
+    (s b b′ : List ℕ) (v w m v′ w′ m′ : List ℤ) (o o′ : List ℕ) (a : Minimum) (z : ℤ) → a ≡ Energy z → Folds s b b′ v w m v′ w′ m′ o o′ a → Small z
+energy-small s b b′ v w m v′ w′ m′ o o′ a z e h =
+    let f : Folds s b b′ v w m v′ w′ m′ o o′ (Energy z) = subst (Folds s b b′ v w m v′ w′ m′ o o′) e h in
+    let g = least-energy s b b′ v w m v′ w′ m′ o o′ z f in
+    let u = foldable s b v w m o (f .0) in
+    let letters = map normal s in
+    let p = take (length s) o′ in
+    let r : Chargeable letters p = record {
+      candidate = subst (Candidate (view letters) (view p) 0) (sym (g .possible .0)) (g .possible .1);
+      bases = omega (arith, g .possible .0, length-map s normal);
+      short = omega (arith, g .possible .0, u .short, fold-reach);
+    } in
+    subst Small (g .reached) (total-small letters p r (length p) (omega arith))

@@ -6,8 +6,8 @@ use native.Mathlib.Omega.{arith}
 use lib.Seq.{length-take-le}
 use lib.ListN.{length}
 use denote.Ref.{now}
-use Rattle.fold.proofs.SmallEnergy.{energy-small}
 use Rattle.ints.proofs.Ints.{plain}
+use Rattle.energy.proofs.LeastEnergy.{energy-small}
 use Rattle.fold.proofs.fold_energy.Statement.{statement}
 use Rattle.fold.proofs.fold_energy.Tie as tie
 

@@ -1,2 +1,0 @@
--- What the program's proofs share.
-pub mod SmallEnergy
