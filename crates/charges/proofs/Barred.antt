@@ -9,7 +9,8 @@ use native.Mathlib.Decide.{ℕ-discrete}
 use lib.ListN.{length}
 use Rattle.structure.specs.Table.{unpaired, view, Sound}
 use Rattle.ints.proofs.Ints.{either}
-use Rattle.charges.specs.Loops.{mayClose, bars, barred, firstBarred, Candidate}
+use Rattle.closing.specs.Closing.{mayClose}
+use Rattle.charges.specs.Loops.{bars, barred, firstBarred, Candidate}
 use Rattle.charges.proofs.Walk.{opens-up}
 
 module _ (b p : ℕ → ℕ) where

@@ -7,20 +7,17 @@ use native.Mathlib.Omega.{arith}
 use native.Mathlib.Numerals.{add-one}
 use native.Mathlib.Decide.{decLt}
 use lib.Dec.{leb, eqb}
-use lib.IntN.{ℤ, pos, negsuc}
+use lib.IntN.{ℤ}
 use lib.Signed.{leZ, _≤ℤ_}
 use borrow.Author.Tests.{le-leb, lt-leb}
 use Rattle.bases.specs.Bases.{pairIndex}
-use Rattle.ints.specs.Ints.{In}
 use Rattle.ints.proofs.Ints.{ints, either, le-yes, le-no}
 use Rattle.figures.specs.Figures.{longestSide}
-use Rattle.figures.specs.Charge.{hairpinOf, manyOf, between, chargeOf, figureMost}
-use Rattle.figures.specs.Sides.{sideCharge}
+use Rattle.figures.specs.Charge.{manyOf, between, chargeOf}
 use Rattle.figures.specs.declared.Loop.{Loop}
 use Rattle.figures.specs.declared.Loop.the-variants.{Hairpin, Many}
-use Rattle.figures.proofs.Charges.{stackAt-in, bulgeOf-in, internalOf-in, hairpinOf-in}
-use Rattle.figures.proofs.Flanks.{side-any}
-use Rattle.charges.specs.Loops.{armsIn, firstIn, own, single, kindBy, kind, purines, hairpinAt, chargeBy, chargeAt}
+use Rattle.closing.specs.Closing.{own, purines, hairpinAt}
+use Rattle.charges.specs.Loops.{armsIn, firstIn, single, kindBy, kind, chargeBy, chargeAt}
 
 -- a loop with one inner pair asks for no bases of a hairpin
 between-any : (l r o i p : ℕ) → chargeOf (between l r) o i p ≡ chargeOf (between l r) o i 0
@@ -29,27 +26,6 @@ between-any l r o i p =
     either (eqb l 0)
     (λ e. either (eqb r 0) (λ q. rw (e, q)) (λ q. rw (e, q)))
     (λ e. either (eqb r 0) (λ q. rw (e, q)) (λ q. rw (e, q)))
-
--- with two bases or more between the pairs, its own figure is that of the sides
-pub own-side : (b : ℕ → ℕ) (i j x y : ℕ) → 2 ≤ (x - suc i) + (j - suc y) → own b i j x y ≡ sideCharge (x - suc i) (j - suc y)
-unfolding own
-own-side b i j x y h = side-any (x - suc i) (j - suc y) (pairIndex (b i) (b j)) (pairIndex (b x) (b y)) h
-
--- ---- bounds
-pub own-in : (b : ℕ → ℕ) (i j x y : ℕ) → In (negsuc 3399) (pos figureMost) (own b i j x y)
-unfolding own between
-own-in b i j x y =
-    let o = pairIndex (b i) (b j) in
-    let n = pairIndex (b x) (b y) in
-    let l = x - suc i in
-    let r = j - suc y in
-    either (eqb l 0)
-    (λ e. either (eqb r 0) (λ q. rw (e, q) (omega (ints, stackAt-in o n))) (λ q. rw (e, q) (omega (ints, bulgeOf-in r o n))))
-    (λ e. either (eqb r 0) (λ q. rw (e, q) (omega (ints, bulgeOf-in l o n))) (λ q. rw (e, q) (omega (ints, internalOf-in l r))))
-
-pub hairpinAt-in : (b : ℕ → ℕ) (i j : ℕ) → In (negsuc 799) (pos figureMost) (hairpinAt b i j)
-unfolding hairpinAt
-hairpinAt-in b i j = hairpinOf-in (j - suc i) (purines (b (i + 1)) (b (j - 1)))
 
 -- ---- a loop with one inner pair (x, y)
 module _ (b : ℕ → ℕ) (i j x y : ℕ) where
@@ -164,15 +140,6 @@ module _ (b p : ℕ → ℕ) (i : ℕ) where
   arms-most h = arms-by inside refl h
 
 -- ---- the figures as the code finds them, part by part
-pub own-is : (b : ℕ → ℕ) (i j x y l r o n : ℕ) (q : Loop) → q ≡ between l r → l ≡ x - suc i → r ≡ j - suc y → o ≡ pairIndex (b i) (b j)
-    → n ≡ pairIndex (b x) (b y) → chargeOf q o n 0 ≡ own b i j x y
-unfolding own
-own-is b i j x y l r o n q eq el er eo en = rw (eq, el, er, eo, en)
-
-pub hairpin-is : (b : ℕ → ℕ) (i j n q : ℕ) → n ≡ j - suc i → q ≡ purines (b (i + 1)) (b (j - 1)) → hairpinOf n q ≡ hairpinAt b i j
-unfolding hairpinAt
-hairpin-is b i j n q en eq = rw (en, eq)
-
 pub charge-is : (b p : ℕ → ℕ) (i x o n q : ℕ) (l : Loop) → l ≡ kind b p i → x ≡ firstIn p (i + 1) (p i) → o ≡ pairIndex (b i) (b (p i))
     → n ≡ pairIndex (b x) (b (p x)) → q ≡ purines (b (i + 1)) (b (p i - 1)) → chargeOf l o n q ≡ chargeAt b p i
 unfolding chargeAt chargeBy

@@ -10,7 +10,8 @@ use Rattle.figures.specs.Figures as fig
 use Rattle.figures.specs.Charge.{hairpin, mismatch, bulge, internal, stack, long, sized, hairpinOf, stackAt, bulgeOf, slant, internalOf, manyOf, between, chargeOf}
 use Rattle.figures.specs.declared.Loop.{Loop}
 use Rattle.figures.specs.declared.Loop.the-variants.{Hairpin, Stack, Bulge, Internal, Many}
-use Rattle.charges.specs.Loops.{arms, first, own, single, kindBy, kind, purines, chargeBy, chargeAt}
+use Rattle.closing.specs.Closing.{own, purines}
+use Rattle.charges.specs.Loops.{arms, first, single, kindBy, kind, chargeBy, chargeAt}
 
 -- a line: bases, pair table, the kind of the loop that opens at 0 and its charge; a kind's own figure
 pub data Line : Type 0 where

@@ -1,36 +1,34 @@
 -- What is known where a pair opens in a chargeable table: its inside folds, its inner pairs are in reach, its loop has a figure, and sums of charges stay small.
 use mathlib.Core.Path.{_≡_, refl, sym, ap, _∙_}
 use mathlib.Core.Logic.{_≢_, _⊎_, inl, inr, ⊎-elim, by-cases}
-use mathlib.Core.Bool.{Bool, true, false, true≢false, cond, _&&_}
+use mathlib.Core.Bool.{true, false, true≢false, cond}
 use mathlib.Core.List.{List}
 use Prim.Native.Nat.{ℕ, zero, suc, _+_, _-_, _*_, _<_, _≤_}
 use native.Mathlib.Omega.{arith}
 use native.Mathlib.Numerals.{add-one}
 use native.Mathlib.Decide.{decLt, ℕ-discrete}
-use lib.Dec.{ltb, eqb}
+use lib.Dec.{eqb}
 use lib.IntN.{pos, negsuc, _+ℤ_}
 use lib.ListN.{length}
 use lib.Signed.{leZ, _≤ℤ_}
-use borrow.Author.Tests.{ltb-true, eq-eqb, ne-eqb}
-use Rattle.bases.specs.Bases.{canPair, pairIndex, isPurine}
+use borrow.Author.Tests.{eq-eqb, ne-eqb}
+use Rattle.bases.specs.Bases.{pairIndex}
 use Rattle.bases.proofs.Laws.{index-below}
 use Rattle.structure.specs.Table.{unpaired, view, opens, Fold}
 use Rattle.structure.proofs.Folds as folds
 use Rattle.structure.proofs.Counts.{opens-none, opens-high}
 use Rattle.ints.specs.Ints.{In, Small}
 use Rattle.ints.proofs.Ints.{ints, sum, either}
-use Rattle.figures.specs.Figures.{smallestHairpin, longestSide}
+use Rattle.figures.specs.Figures.{longestSide}
 use Rattle.figures.specs.Charge.{manyOf, Figured, figureMost, chargeMost}
 use Rattle.figures.specs.declared.Loop.{Loop}
 use Rattle.figures.proofs.Charges.{sides-reach, longest-low, term-low, charge-in}
 use Rattle.figures.proofs.Flanks.{between-figured}
-use Rattle.charges.specs.Loops.{mayClose, opening, arms, armsIn, first, firstIn, own, single, kindBy, kind, purines, chargeBy, chargeAt, total, Chargeable}
+use Rattle.closing.specs.Closing.{mayClose, own, purines}
+use Rattle.closing.proofs.Closing.{purines-le, close-pair, close-far}
+use Rattle.charges.specs.Loops.{opening, arms, armsIn, first, firstIn, single, kindBy, kind, chargeBy, chargeAt, total, Chargeable}
 use Rattle.charges.proofs.Charged.{single-left, single-right, single-own, single-many}
 use Rattle.charges.proofs.Walk.{arms-free, arms-pair, shut-none, shut-low, first-le, one-arm}
-
-both : (x y : Bool) → (x && y) ≡ true → (x ≡ true) × (y ≡ true)
-both true y e = (refl, e)
-both false y e = absurd (true≢false (sym e))
 
 -- ---- openings
 pub opening-true : (k v : ℕ) → opening k v ≡ true → (k < v) × (v ≢ unpaired)
@@ -99,25 +97,6 @@ arms-below p (suc n) (suc s) k = omega (arith, arms-below p n s (suc k))
 
 pub arms-le : (p : ℕ → ℕ) (lo hi : ℕ) → armsIn p lo hi ≤ hi - lo
 arms-le p lo hi = arms-below p (hi - lo) 0 lo
-
--- ---- purines
-pub one-le : (t : Bool) → cond t 1 0 ≤ 1
-one-le true = omega arith
-one-le false = omega arith
-
-pub purines-le : (x y : ℕ) → purines x y ≤ 2
-unfolding purines
-purines-le x y = omega (arith, one-le (isPurine x), one-le (isPurine y))
-
--- ---- figures
-module _ (b : ℕ → ℕ) (i j : ℕ) (e : mayClose b i j ≡ true) where
-  pub close-pair : canPair (b i) (b j) ≡ true
-  unfolding mayClose
-  close-pair = both (canPair (b i) (b j)) (ltb smallestHairpin (j - i)) e .0
-
-  pub close-far : smallestHairpin < j - i
-  unfolding mayClose
-  close-far = ltb-true smallestHairpin (j - i) (both (canPair (b i) (b j)) (ltb smallestHairpin (j - i)) e .1)
 
 single-figured : (b : ℕ → ℕ) (i j x y o n p : ℕ) → o < 6 → n < 6 → Figured (single b i j x y) o n p
 single-figured b i j x y o n p d e =

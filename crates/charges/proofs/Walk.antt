@@ -7,9 +7,9 @@ use native.Mathlib.Omega.{arith}
 use native.Mathlib.Decide.{ℕ-discrete}
 use lib.IntN.{ℤ, pos, _+ℤ_}
 use borrow.Author.Tests.{lt-ltb, le-ltb, eq-eqb, ne-eqb}
-use Rattle.ints.proofs.Ints.{ints, sum}
 use Rattle.structure.specs.Table.{unpaired, Fold}
 use Rattle.structure.proofs.Folds as folds
+use Rattle.ints.proofs.Ints.{ints, sum}
 use Rattle.charges.specs.Loops.{opening, arms, armsIn, first, firstIn, chargeAt, total}
 
 -- ---- openings

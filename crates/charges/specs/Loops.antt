@@ -4,22 +4,19 @@ use mathlib.Core.Logic.{_≢_}
 use mathlib.Core.Bool.{Bool, true, not, cond, _&&_}
 use mathlib.Core.List.{List}
 use Prim.Native.Nat.{ℕ, zero, suc, _+_, _-_, _<_, _≤_}
-use lib.Dec.{ltb, leb, eqb}
+use lib.Dec.{leb, eqb}
 use lib.IntN.{ℤ, pos, _+ℤ_}
 use lib.ListN.{length}
 use lib.Signed.{leZ}
-use Rattle.bases.specs.Bases.{canPair, pairIndex, isPurine}
+use Rattle.bases.specs.Bases.{pairIndex}
 use Rattle.structure.specs.Table.{unpaired, view, opens, Fold}
-use Rattle.figures.specs.Figures.{smallestHairpin, longestSide, longest}
-use Rattle.figures.specs.Charge.{hairpinOf, manyOf, between, chargeOf}
+use Rattle.figures.specs.Figures.{longestSide, longest}
+use Rattle.figures.specs.Charge.{manyOf, between, chargeOf}
 use Rattle.figures.specs.declared.Loop.{Loop}
 use Rattle.figures.specs.declared.Loop.the-variants.{Hairpin, Many}
+use Rattle.closing.specs.Closing.{mayClose, own, purines}
 
 -- ---- candidates
--- positions i and j may close a loop: one of the six pairs, and room for a hairpin between them
-unfoldable pub mayClose : (ℕ → ℕ) → ℕ → ℕ → Bool
-mayClose b i j = canPair (b i) (b j) && ltb smallestHairpin (j - i)
-
 -- the pairs of a span don't cross, and each may close a loop
 pub record Candidate (b p : ℕ → ℕ) (lo hi : ℕ) : Type 0 where
   pub fold : Fold p lo hi
@@ -63,10 +60,6 @@ abbrev pub firstIn : (ℕ → ℕ) → ℕ → ℕ → ℕ
 firstIn p lo hi = first p (hi - lo) lo
 
 -- ---- the kind of a loop
--- with one inner pair, its own figure: (i, j) is the closing pair, (x, y) the inner one
-unfoldable pub own : (ℕ → ℕ) → ℕ → ℕ → ℕ → ℕ → ℤ
-own b i j x y = chargeOf (between (x - suc i) (j - suc y)) (pairIndex (b i) (b j)) (pairIndex (b x) (b y)) 0
-
 -- the rule for one inner pair: its own kind where no side is too long and its own figure is at most the many-armed one, otherwise many-armed
 unfoldable pub single : (ℕ → ℕ) → ℕ → ℕ → ℕ → ℕ → Loop
 single b i j x y =
@@ -84,14 +77,6 @@ unfoldable pub kind : (ℕ → ℕ) → (ℕ → ℕ) → ℕ → Loop
 kind b p i = kindBy b i (p i) (armsIn p (suc i) (p i)) (firstIn p (suc i) (p i)) (p (firstIn p (suc i) (p i)))
 
 -- ---- what a structure costs
--- how many of two bases are purines
-unfoldable pub purines : ℕ → ℕ → ℕ
-purines x y = cond (isPurine x) 1 0 + cond (isPurine y) 1 0
-
--- the hairpin that (i, j) closes
-unfoldable pub hairpinAt : (ℕ → ℕ) → ℕ → ℕ → ℤ
-hairpinAt b i j = hairpinOf (j - suc i) (purines (b (i + 1)) (b (j - 1)))
-
 -- a loop of a kind, with the closing pair (i, j) and the first inner pair (x, y)
 unfoldable pub chargeBy : (ℕ → ℕ) → ℕ → ℕ → ℕ → ℕ → Loop → ℤ
 chargeBy b i j x y l = chargeOf l (pairIndex (b i) (b j)) (pairIndex (b x) (b y)) (purines (b (i + 1)) (b (j - 1)))

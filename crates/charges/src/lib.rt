@@ -1,40 +1,17 @@
-// What a structure costs: which pairs may close a loop, the kind and the charge of each loop, and the energy as the sum over the loops.
+// What a structure costs: its first pair that may not close a loop, the kind and the charge of each loop, and the energy as the sum over the loops.
 // These are inner parts: who calls them has tested that the structure is sound and that each of its pairs may close a loop.
-mod inner;
-
 use figures::LONGEST_SIDE;
 use figures::Loop;
-use figures::SMALLEST_HAIRPIN;
 ghost use mathlib.Core.Path.{_≡_};
 ghost use mathlib.Core.Bool.{true, cond};
-ghost use Prim.Native.Nat.{suc, _-_, _<_, _≤_};
+ghost use Prim.Native.Nat.{_<_, _≤_};
 ghost use lib.IntN.{pos};
 ghost use lib.ListN.{length};
 ghost use Rattle.bases.specs.Bases.{canPair};
 ghost use Rattle.structure.specs.Table.{view, Sound};
-ghost use Rattle.figures.specs.Figures.{smallestHairpin, longestSide, longest};
-ghost use Rattle.charges.specs.Loops.{mayClose, bars, firstBarred, opening, own, single, kind, purines, hairpinAt, chargeAt, energyOf, Chargeable};
+ghost use Rattle.charges.specs.Loops.{bars, firstBarred, opening, single, kind, chargeAt, energyOf, Chargeable};
 
-fn counted(yes: bool) -> usize
-    ensures { λ r. ⌜ r ≡ cond yes 1 0 ⌝ }
-{
-    if yes { 1 } else { 0 }
-}
-
-// How many of two bases are purines.
-fn purines(a: u8, b: u8) -> usize
-    ensures { λ r. ⌜ r ≡ purines a b ⌝ }
-{
-    counted(bases::is_purine(a)) + counted(bases::is_purine(b))
-}
-
-// Whether i and j may close a loop.
-pub fn may_close(bases: &[u8], i: usize, j: usize) -> bool
-    requires { ⌜ (i ≤ j) × (j < length (now bases)) ⌝ }
-    ensures { λ r. ⌜ r ≡ mayClose (view (now (bases .entry))) i j ⌝ }
-{
-    bases::can_pair(bases[i], bases[j]) && SMALLEST_HAIRPIN < j - i
-}
+mod inner;
 
 // Whether position i opens a pair that may not close a loop.
 fn bars(bases: &[u8], pairs: &[u16], i: usize) -> bool
@@ -42,7 +19,7 @@ fn bars(bases: &[u8], pairs: &[u16], i: usize) -> bool
     ensures { λ r. ⌜ r ≡ bars (view (now (bases .entry))) (view (now (pairs .entry))) i ⌝ }
 {
     if structure::opening(i, pairs[i]) == 1 {
-        return !may_close(bases, i, pairs[i] as usize);
+        return !closing::may_close(bases, i, pairs[i] as usize);
     }
     false
 }
@@ -62,31 +39,6 @@ pub fn first_barred(bases: &[u8], pairs: &[u16]) -> usize
     i
 }
 
-// What the hairpin costs that i and j close.
-pub fn hairpin_at(bases: &[u8], i: usize, j: usize) -> i32
-    requires { ⌜ (j < length (now bases)) × (smallestHairpin < j - i) × (j - suc i ≤ longest) ⌝ }
-    ensures { λ r. ⌜ r ≡ hairpinAt (view (now (bases .entry))) i j ⌝ }
-{
-    figures::charge(
-        Loop::Hairpin(j - (i + 1)),
-        0,
-        0,
-        purines(bases[i + 1], bases[j - 1]),
-    )
-}
-
-// What the loop of i and j with the one inner pair x and y costs by its own kind.
-pub fn own(bases: &[u8], i: usize, j: usize, x: usize, y: usize) -> i32
-    requires { ⌜ (i < x) × (x < y) × (y < j) × (j < length (now bases)) × (x - suc i ≤ longestSide) × (j - suc y ≤ longestSide) ⌝ }
-    requires { ⌜ (canPair (view (now bases) i) (view (now bases) j) ≡ true) × (canPair (view (now bases) x) (view (now bases) y) ≡ true) ⌝ }
-    ensures { λ r. ⌜ r ≡ own (view (now (bases .entry))) i j x y ⌝ }
-{
-    let outer = bases::pair_index(bases[i], bases[j]);
-    let inner = bases::pair_index(bases[x], bases[y]);
-    let kind = figures::between(x - (i + 1), j - (y + 1));
-    figures::charge(kind, outer, inner, 0)
-}
-
 // The kind of the loop of i and j with the one inner pair x and y: many-armed only where that is cheaper, or a side is too long.
 fn single(bases: &[u8], i: usize, j: usize, x: usize, y: usize) -> Loop
     requires { ⌜ (i < x) × (x < y) × (y < j) × (j < length (now bases)) ⌝ }
@@ -101,7 +53,7 @@ fn single(bases: &[u8], i: usize, j: usize, x: usize, y: usize) -> Loop
     if LONGEST_SIDE < right {
         return Loop::Many(1);
     }
-    if own(bases, i, j, x, y) <= figures::charge(Loop::Many(1), 0, 0, 0) {
+    if closing::own(bases, i, j, x, y) <= figures::charge(Loop::Many(1), 0, 0, 0) {
         return figures::between(left, right);
     }
     Loop::Many(1)
@@ -135,7 +87,12 @@ pub fn charge_at(bases: &[u8], pairs: &[u16], i: usize) -> i32
     let kind = kind_at(bases, pairs, i);
     let outer = bases::pair_index(bases[i], bases[j]);
     let inner = bases::pair_index(bases[x], bases[y]);
-    figures::charge(kind, outer, inner, purines(bases[i + 1], bases[j - 1]))
+    figures::charge(
+        kind,
+        outer,
+        inner,
+        closing::purines(bases[i + 1], bases[j - 1]),
+    )
 }
 
 // What position i adds to the energy.

@@ -18,7 +18,7 @@ use Rattle.ints.specs.Ints.{minℤ, mark, addE, minFrom}
 use Rattle.ints.proofs.Ints.{ints, sum, either}
 use Rattle.ints.proofs.Minima.{min-by, min-le-l, min-le-r, add-by, least-ext}
 use Rattle.figures.specs.Figures.{longestSide}
-use Rattle.charges.specs.Loops.{mayClose, hairpinAt}
+use Rattle.closing.specs.Closing.{mayClose, hairpinAt}
 use Rattle.energy_rule.specs.Rule.{Table, closingCharge, armCharge, innerAt, lowest, innerFrom, interior, paired, splits, any, armed}
 use Rattle.energy_rule.specs.Bounds.{floor}
 use Rattle.energy_rule.proofs.Parts.{lowest-is, may-far, split-cap}

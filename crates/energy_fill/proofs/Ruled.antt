@@ -17,7 +17,7 @@ use Rattle.cells.proofs.Passes.{gather-none, settled-value}
 use Rattle.ints.specs.Ints.{minℤ, mark}
 use Rattle.ints.proofs.Ints.{ints, either}
 use Rattle.figures.specs.Figures.{longest}
-use Rattle.charges.specs.Loops.{mayClose}
+use Rattle.closing.specs.Closing.{mayClose}
 use Rattle.energy_rule.specs.Rule.{Table, Cell, armCharge, paired, any, armed, energies, pairedOf, armsOf}
 use Rattle.energy_rule.specs.Bounds.{Ranged}
 use Rattle.energy_rule.proofs.Parts.{may-far}

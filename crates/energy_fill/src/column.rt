@@ -20,10 +20,10 @@ fn close(bases: &[u8], sides: &[i32], paired: &[i32], arms: &[i32], i: usize, j:
     requires { ⌜ (i ≤ j) × Before (now bases) (now paired) j × Sides (now sides) × (tri j ≤ length (now arms)) × Fine InRange (at (nums (now arms))) j ⌝ }
     ensures { λ r. ⌜ r ≡ closed (view (now (bases .entry))) (table (now (paired .entry))) (table (now (arms .entry))) j i ⌝ }
 {
-    if !charges::may_close(bases, i, j) {
+    if !closing::may_close(bases, i, j) {
         return ints::MARK;
     }
-    let hairpin = charges::hairpin_at(bases, i, j);
+    let hairpin = closing::hairpin_at(bases, i, j);
     let interior = energy_inner::interior(bases, sides, paired, i, j);
     let at = cells::place(i + 1, j - 1);
     let many = ints::plus(ints::cell(arms, at), figures::CLOSING as i32);

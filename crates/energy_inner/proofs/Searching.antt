@@ -20,8 +20,8 @@ use Rattle.figures.specs.Figures.{smallestHairpin, longestSide, longest}
 use Rattle.figures.specs.Sides.{sideCount, sideCharge, Sides}
 use Rattle.figures.proofs.Charges.{figure-low, longest-low}
 use Rattle.figures.proofs.Flanks.{side-in}
-use Rattle.charges.specs.Loops.{mayClose, own}
-use Rattle.charges.proofs.Charged.{own-in, own-side}
+use Rattle.closing.specs.Closing.{mayClose, own}
+use Rattle.closing.proofs.Closing.{own-in, own-side}
 use Rattle.energy_rule.specs.Rule.{Table, innerAt, interior}
 use Rattle.energy_rule.specs.Memory.{nums}
 use Rattle.energy_rule.proofs.Parts.{interior-le, interior-real}

@@ -12,7 +12,7 @@ use Rattle.cells.specs.Rule.{Bases}
 use Rattle.cells.specs.Fill.{at, Fine}
 use Rattle.ints.specs.Ints.{mark, addE, minFrom, In, Small}
 use Rattle.figures.specs.Figures.{smallestHairpin, longestSide, longest}
-use Rattle.charges.specs.Loops.{mayClose}
+use Rattle.closing.specs.Closing.{mayClose}
 use Rattle.energy_rule.specs.Bounds.{floor}
 use Rattle.energy_rule.specs.Memory.{nums}
 

@@ -9,7 +9,7 @@ ghost use Rattle.cells.specs.Fill.{at, Fine};
 ghost use Rattle.ints.specs.Ints.{minFrom};
 ghost use Rattle.figures.specs.Figures.{smallestHairpin, longestSide, longest};
 ghost use Rattle.figures.specs.Sides.{Sides};
-ghost use Rattle.charges.specs.Loops.{mayClose};
+ghost use Rattle.closing.specs.Closing.{mayClose};
 ghost use Rattle.energy_rule.specs.Rule.{innerAt, interior};
 ghost use Rattle.energy_rule.specs.Memory.{nums, table};
 ghost use Rattle.energy_inner.specs.Search.{InRange, Smalls, Charge, charged, near, Before};
@@ -72,11 +72,11 @@ fn one(bases: &[u8], paired: &[i32], i: usize, j: usize, x: usize, y: usize) -> 
     requires { ⌜ Before (now bases) (now paired) j × (mayClose (view (now bases)) i j ≡ true) ⌝ }
     ensures { λ r. ⌜ r ≡ innerAt (view (now (bases .entry))) (table (now (paired .entry))) i j x y ⌝ }
 {
-    if !charges::may_close(bases, x, y) {
+    if !closing::may_close(bases, x, y) {
         return ints::MARK;
     }
     let at = cells::place(x, y);
-    ints::plus(ints::cell(paired, at), charges::own(bases, i, j, x, y))
+    ints::plus(ints::cell(paired, at), closing::own(bases, i, j, x, y))
 }
 
 // The least with one inner pair.

@@ -14,7 +14,7 @@ ghost use lib.Signed.{ltZ};
 ghost use Rattle.structure.specs.Table.{view};
 ghost use Rattle.ints.specs.Ints.{mark, addE, Small};
 ghost use Rattle.figures.specs.Figures.{longest, longestSide};
-ghost use Rattle.charges.specs.Loops.{mayClose, hairpinAt};
+ghost use Rattle.closing.specs.Closing.{mayClose, hairpinAt};
 ghost use Rattle.energy_rule.specs.Rule.{closingCharge, armCharge, innerAt, lowest};
 ghost use Rattle.energy_rule.specs.Memory.{table};
 ghost use Rattle.energy_reach.specs.Reach.{same, splitAt, splitting, reaches, innerRow, inside, Ready};
@@ -84,7 +84,7 @@ pub fn hairpin(bases: &[u8], paired: &[i32], i: usize, j: usize) -> bool
     requires { ⌜ (j < length (now bases)) × (mayClose (view (now bases)) i j ≡ true) × Ready (now paired) j ⌝ }
     ensures { λ r. ⌜ r ≡ same (hairpinAt (view (now (bases .entry))) i j) (table (now (paired .entry)) i j) ⌝ }
 {
-    same(charges::hairpin_at(bases, i, j), cell(paired, i, j))
+    same(closing::hairpin_at(bases, i, j), cell(paired, i, j))
 }
 
 // i with j around the one inner pair x with y.
@@ -102,8 +102,8 @@ fn inner_at(bases: &[u8], paired: &[i32], i: usize, j: usize, x: usize, y: usize
     requires { ⌜ (mayClose (view (now bases)) i j ≡ true) × Ready (now paired) j ⌝ }
     ensures { λ r. ⌜ r ≡ innerAt (view (now (bases .entry))) (table (now (paired .entry))) i j x y ⌝ }
 {
-    if charges::may_close(bases, x, y) {
-        ints::plus(cell(paired, x, y), charges::own(bases, i, j, x, y))
+    if closing::may_close(bases, x, y) {
+        ints::plus(cell(paired, x, y), closing::own(bases, i, j, x, y))
     } else {
         MARK
     }

@@ -14,7 +14,7 @@ use Rattle.ints.proofs.Minima.{less}
 use Rattle.figures.specs.Figures.{arm}
 use Rattle.figures.specs.Charge.{figureMost}
 use Rattle.figures.proofs.Charges.{figure-low}
-use Rattle.charges.specs.Loops.{mayClose}
+use Rattle.closing.specs.Closing.{mayClose}
 use Rattle.energy_rule.specs.Rule.{Table, Cell, armCharge, energies, pairedOf, anyOf, armsOf}
 use Rattle.energy_rule.specs.Bounds.{Ranged, Believable}
 use Rattle.energy_rule.proofs.Ruling.{floor-is, energies-keeps}

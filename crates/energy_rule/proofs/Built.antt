@@ -15,7 +15,8 @@ use Rattle.cells.specs.Rule.{Bases}
 use Rattle.ints.specs.Ints.{mark}
 use Rattle.ints.proofs.Ints.{ints, sum, diff}
 use Rattle.figures.specs.Figures.{arm}
-use Rattle.charges.specs.Loops.{mayClose, armsIn, total}
+use Rattle.closing.specs.Closing.{mayClose}
+use Rattle.charges.specs.Loops.{armsIn, total}
 use Rattle.energy_rule.specs.Rule.{Table}
 use Rattle.energy_rule.specs.Meaning.{energyIn, armedIn}
 use Rattle.energy_rule.specs.Filled.{AnyFilled, ArmsFilled, PairFilled}

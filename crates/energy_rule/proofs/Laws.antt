@@ -15,8 +15,8 @@ use Rattle.ints.proofs.Minima.{min-le-l, min-le-r, min-one, add-some, add-real}
 use Rattle.figures.specs.Figures.{longestSide}
 use Rattle.figures.specs.Charge.{figureMost}
 use Rattle.figures.proofs.Charges.{figure-low}
-use Rattle.charges.specs.Loops.{mayClose, own, hairpinAt}
-use Rattle.charges.proofs.Charged.{hairpinAt-in}
+use Rattle.closing.specs.Closing.{mayClose, own, hairpinAt}
+use Rattle.closing.proofs.Closing.{hairpinAt-in}
 use Rattle.energy_rule.specs.Rule.{Table, Cell, closingCharge, armCharge, interior, paired, splits, any, armed, energies, pairedOf, anyOf, armsOf}
 use Rattle.energy_rule.proofs.Parts.{may-far, split-le, Cut, split-real, interior-le, Inner, interior-real}
 use Rattle.energy_rule.proofs.Ruling.{closed, energies-one, energies-more, paired-none}

@@ -14,7 +14,8 @@ use Rattle.structure.specs.Table.{unpaired, view, Fold}
 use Rattle.structure.proofs.Folds as folds
 use Rattle.ints.proofs.Ints.{ints, sum, either}
 use Rattle.figures.specs.Charge.{between, chargeOf}
-use Rattle.charges.specs.Loops.{Candidate, Chargeable, mayClose, opening, arms, armsIn, first, firstIn, own, single, kindBy, kind, purines, chargeBy, chargeAt, total, energyOf}
+use Rattle.closing.specs.Closing.{mayClose, own, purines}
+use Rattle.charges.specs.Loops.{Candidate, Chargeable, opening, arms, armsIn, first, firstIn, single, kindBy, kind, chargeBy, chargeAt, total, energyOf}
 use Rattle.charges.proofs.Walk.{shut-none, shut-low, total-free, total-open, first-le}
 use Rattle.charges.proofs.Openings.{closes, foremost}
 

@@ -15,7 +15,8 @@ use Rattle.ints.specs.Ints.{mark}
 use Rattle.ints.proofs.Ints.{ints, sum, diff}
 use Rattle.figures.specs.Figures.{arm}
 use Rattle.figures.proofs.Charges.{many-is, figure-low}
-use Rattle.charges.specs.Loops.{Candidate, mayClose, own, armsIn, firstIn, chargeAt, total}
+use Rattle.closing.specs.Closing.{mayClose, own}
+use Rattle.charges.specs.Loops.{Candidate, armsIn, firstIn, chargeAt, total}
 use Rattle.charges.proofs.Walk.{shut-none, arms-none, arms-free, arms-pair, total-free, total-open, armless, one-arm}
 use Rattle.charges.proofs.Walk as walk
 use Rattle.charges.proofs.Charged.{by-hairpin, by-inner, by-arms, charged}

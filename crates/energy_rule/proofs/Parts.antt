@@ -12,9 +12,8 @@ use Rattle.ints.proofs.Ints.{ints, either}
 use Rattle.ints.proofs.Minima.{least-le, least-real, least-cap, add-some, add-real}
 use Rattle.figures.specs.Figures.{smallestHairpin, longestSide}
 use Rattle.figures.proofs.Charges.{figure-low}
-use Rattle.charges.specs.Loops.{mayClose, own}
-use Rattle.charges.proofs.Charged.{own-in}
-use Rattle.charges.proofs.Openings.{close-far}
+use Rattle.closing.specs.Closing.{mayClose, own}
+use Rattle.closing.proofs.Closing.{own-in, close-far}
 use Rattle.energy_rule.specs.Rule.{Table, innerAt, lowest, innerFrom, interior, splits}
 
 pub lowest-is : (j x : ℕ) → lowest j x ≡ max (x + suc smallestHairpin) (j - suc longestSide)

@@ -15,8 +15,8 @@ use Rattle.ints.proofs.Ints.{ints, sum, neg, up, dn, either}
 use Rattle.ints.proofs.Minima.{less, min-by, min-le-l, min-le-r, add-by, least-ext}
 use Rattle.figures.specs.Figures.{longestSide, longest}
 use Rattle.figures.proofs.Charges.{figure-low, longest-low}
-use Rattle.charges.specs.Loops.{mayClose, own, hairpinAt}
-use Rattle.charges.proofs.Charged.{own-in, hairpinAt-in}
+use Rattle.closing.specs.Closing.{mayClose, own, hairpinAt}
+use Rattle.closing.proofs.Closing.{own-in, hairpinAt-in}
 use Rattle.energy_rule.specs.Rule.{Table, Cell, closingCharge, armCharge, innerAt, lowest, innerFrom, interior, paired, splits, any, armed, energies, pairedOf, anyOf, armsOf}
 use Rattle.energy_rule.specs.Bounds.{deepest, floor, Ranged}
 use Rattle.energy_rule.proofs.Parts.{lowest-is, may-far, interior-real, split-real, split-cap}

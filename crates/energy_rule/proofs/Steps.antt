@@ -17,7 +17,8 @@ use Rattle.cells.specs.Rule.{Bases}
 use Rattle.ints.proofs.Ints.{ints, sum}
 use Rattle.figures.specs.Figures.{arm, longestSide}
 use Rattle.figures.proofs.Charges.{many-is}
-use Rattle.charges.specs.Loops.{Candidate, mayClose, own, hairpinAt, armsIn, firstIn, chargeAt, total}
+use Rattle.closing.specs.Closing.{mayClose, own, hairpinAt}
+use Rattle.charges.specs.Loops.{Candidate, armsIn, firstIn, chargeAt, total}
 use Rattle.charges.proofs.Walk.{shut-none, shut-low, opens-up, arms-none, arms-free, arms-pair, arms-join, first-here, total-free, total-open, bare}
 use Rattle.charges.proofs.Charged.{none, inner-most, arms-most}
 use Rattle.energy_rule.specs.Rule.{closingCharge, armCharge}

@@ -4,9 +4,9 @@ use mathlib.Core.Logic.{_⊎_}
 use mathlib.Core.Bool.{true, false}
 use Prim.Native.Nat.{ℕ, _+_, _-_, _*_, _/_}
 use lib.IntN.{ℤ, pos, negℤ}
-use Rattle.ints.specs.Ints.{mark, In}
 use Rattle.cells.specs.Rule.{Bases}
-use Rattle.charges.specs.Loops.{mayClose}
+use Rattle.ints.specs.Ints.{mark, In}
+use Rattle.closing.specs.Closing.{mayClose}
 use Rattle.energy_rule.specs.Rule.{Cell}
 
 -- no loop costs less than so much below 0

@@ -7,7 +7,7 @@ use lib.IntN.{ℤ, pos}
 use Rattle.cells.specs.Rule.{Bases, Cells, Rule}
 use Rattle.ints.specs.Ints.{minℤ, mark, addE, minFrom}
 use Rattle.figures.specs.Figures.{smallestHairpin, longestSide, closing, arm}
-use Rattle.charges.specs.Loops.{mayClose, own, hairpinAt}
+use Rattle.closing.specs.Closing.{mayClose, own, hairpinAt}
 
 -- one table's cells
 abbrev pub Table : Type 0

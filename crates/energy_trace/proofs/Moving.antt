@@ -12,8 +12,8 @@ use Rattle.searches.specs.declared.Found.the-variants.{At, Nothing}
 use Rattle.cells.specs.Rule.{Bases}
 use Rattle.ints.specs.Ints.{mark, addE}
 use Rattle.ints.proofs.Ints.{either}
-use Rattle.charges.specs.Loops.{mayClose, hairpinAt}
-use Rattle.charges.proofs.Openings.{close-far}
+use Rattle.closing.specs.Closing.{mayClose, hairpinAt}
+use Rattle.closing.proofs.Closing.{close-far}
 use Rattle.energy_rule.specs.Rule.{Table, closingCharge, armCharge}
 use Rattle.energy_reach.specs.Reach.{same, splitting, reaches, inside}
 use Rattle.energy_reach.specs.declared.Within.{Within}

@@ -25,8 +25,9 @@ use Rattle.ints.proofs.Ints.{ints, either, le-yes, le-no, lt-no}
 use Rattle.ints.proofs.Minima.{add-some, add-real}
 use Rattle.figures.specs.Figures.{longestSide}
 use Rattle.figures.proofs.Charges.{figure-low}
-use Rattle.charges.specs.Loops.{Candidate, mayClose, own, hairpinAt}
-use Rattle.charges.proofs.Charged.{own-in}
+use Rattle.closing.specs.Closing.{mayClose, own, hairpinAt}
+use Rattle.closing.proofs.Closing.{own-in}
+use Rattle.charges.specs.Loops.{Candidate}
 use Rattle.energy_rule.specs.Rule.{Table, closingCharge, armCharge, innerAt, lowest, energies}
 use Rattle.energy_rule.specs.Meaning.{energyIn}
 use Rattle.energy_rule.specs.Memory.{table, three}

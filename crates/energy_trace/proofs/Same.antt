@@ -20,7 +20,7 @@ use Rattle.cells.specs.Fill.{at}
 use Rattle.ints.specs.Ints.{mark, addE}
 use Rattle.ints.proofs.Ints.{either}
 use Rattle.figures.specs.Figures.{longestSide}
-use Rattle.charges.specs.Loops.{mayClose}
+use Rattle.closing.specs.Closing.{mayClose}
 use Rattle.energy_rule.specs.Rule.{Table, Cell, closingCharge, armCharge, innerAt, lowest}
 use Rattle.energy_rule.specs.Memory.{table, three}
 use Rattle.energy_rule.proofs.Parts.{lowest-is, may-far}

@@ -9,7 +9,7 @@ use Rattle.searches.specs.declared.Found.{Found}
 use Rattle.searches.specs.declared.Found.the-variants.{At, Nothing}
 use Rattle.cells.specs.Rule.{Bases}
 use Rattle.ints.specs.Ints.{mark, addE}
-use Rattle.charges.specs.Loops.{mayClose, hairpinAt}
+use Rattle.closing.specs.Closing.{mayClose, hairpinAt}
 use Rattle.energy_rule.specs.Rule.{Table, closingCharge, armCharge}
 use Rattle.energy_reach.specs.Reach.{same, splitting, reaches, inside}
 use Rattle.energy_reach.specs.declared.Within.{Within}

@@ -108,7 +108,7 @@ fn closed_move(bases: &[u8], paired: &[i32], arms: &[i32], i: usize, j: usize) -
     requires { ⌜ (i < j) × (j < length (now bases)) × Ready (now paired) j × Ready (now arms) j ⌝ }
     ensures { λ r. ⌜ r ≡ closedMove (view (now (bases .entry))) (table (now (paired .entry))) (table (now (arms .entry))) i j ⌝ }
 {
-    if !charges::may_close(bases, i, j) {
+    if !closing::may_close(bases, i, j) {
         return Move::Stop;
     }
     if !energy_reach::real(paired, i, j) {

@@ -16,7 +16,8 @@ use Rattle.cells.specs.Solve.{every}
 use Rattle.ints.specs.Ints.{mark, minℤ, addE, minFrom}
 use Rattle.figures.specs.Figures as fig
 use Rattle.figures.specs.Charge.{hairpin, mismatch, bulge, internal, stack, long, sized, hairpinOf, stackAt, bulgeOf, slant, internalOf, manyOf, between}
-use Rattle.charges.specs.Loops.{mayClose, arms, first, own, single, kindBy, kind, purines, hairpinAt, chargeBy, chargeAt, total}
+use Rattle.closing.specs.Closing.{mayClose, own, purines, hairpinAt}
+use Rattle.charges.specs.Loops.{arms, first, single, kindBy, kind, chargeBy, chargeAt, total}
 use Rattle.energy_rule.specs.Rule.{innerAt, lowest, innerFrom, interior, paired, splits, any, armed, energies}
 use Rattle.energy_reach.specs.Reach.{same, firstRow, splitAt, splitting, reaches, innerRow, inside}
 use Rattle.energy_trace.specs.Choosing.{shorter, anyMove, armsMove, closedMove, moveOf}

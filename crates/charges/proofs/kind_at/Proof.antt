@@ -7,9 +7,10 @@ use borrow.Author.Needs.{needs}
 use denote.Ref.{now}
 use Rattle.structure.specs.Table.{view}
 use Rattle.figures.specs.declared.Loop.the-variants.{Hairpin, Many}
+use Rattle.closing.proofs.Closing.{close-pair}
 use Rattle.charges.specs.Loops.{firstIn}
 use Rattle.charges.proofs.Charged.{kind-none, kind-one, kind-more}
-use Rattle.charges.proofs.Openings.{Closes, Foremost, close-pair, inner-at, first-at, closes}
+use Rattle.charges.proofs.Openings.{Closes, Foremost, inner-at, first-at, closes}
 use Rattle.charges.proofs.kind_at.Statement.{statement}
 use Rattle.charges.proofs.kind_at.Tie as tie
 

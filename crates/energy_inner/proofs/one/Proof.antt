@@ -8,8 +8,7 @@ use Rattle.structure.specs.Table.{view}
 use Rattle.cells.proofs.Places.{place-below}
 use Rattle.ints.proofs.Ints.{ints, plain, back}
 use Rattle.figures.proofs.Charges.{figure-low, longest-low}
-use Rattle.charges.proofs.Openings.{close-pair}
-use Rattle.charges.proofs.Charged.{own-in}
+use Rattle.closing.proofs.Closing.{close-pair, own-in}
 use Rattle.energy_rule.specs.Memory.{nums, table}
 use Rattle.energy_inner.proofs.Searching.{range-small, inner-none, inner-some}
 use Rattle.energy_inner.proofs.one.Statement.{statement}

@@ -4,7 +4,7 @@ use borrow.Author.Needs.{needs}
 use denote.Ref.{now}
 use Rattle.structure.specs.Table.{view}
 use Rattle.ints.proofs.Ints.{plain}
-use Rattle.charges.proofs.Openings.{close-far}
+use Rattle.closing.proofs.Closing.{close-far}
 use Rattle.energy_reach.proofs.hairpin.Statement.{statement}
 use Rattle.energy_reach.proofs.hairpin.Tie as tie
 

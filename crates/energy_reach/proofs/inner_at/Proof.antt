@@ -7,8 +7,7 @@ use denote.Ref.{now}
 use Rattle.structure.specs.Table.{view}
 use Rattle.ints.proofs.Ints.{ints, plain, back}
 use Rattle.figures.proofs.Charges.{figure-low}
-use Rattle.charges.proofs.Charged.{own-in}
-use Rattle.charges.proofs.Openings.{close-pair, close-far}
+use Rattle.closing.proofs.Closing.{own-in, close-pair, close-far}
 use Rattle.energy_rule.specs.Rule.{innerAt}
 use Rattle.energy_reach.proofs.Readiness.{ready-less}
 use Rattle.energy_reach.proofs.inner_at.Statement.{statement}

@@ -12,7 +12,7 @@ use Rattle.ints.specs.Ints.{minℤ, addE}
 use Rattle.ints.proofs.Ints.{ints, back, is}
 use Rattle.figures.specs.Figures.{smallestHairpin}
 use Rattle.figures.proofs.Charges.{longest-low}
-use Rattle.charges.specs.Loops.{mayClose}
+use Rattle.closing.specs.Closing.{mayClose}
 use Rattle.energy_rule.specs.Memory.{nums, table}
 use Rattle.energy_rule.specs.Rule.{closingCharge}
 use Rattle.energy_rule.proofs.Ruling.{paired-none}

@@ -7,8 +7,8 @@ use borrow.Author.Needs.{needs}
 use borrow.Author.Tests.{not-true, not-false}
 use denote.Ref.{now}
 use Rattle.structure.specs.Table.{view}
-use Rattle.charges.specs.Loops.{mayClose}
-use Rattle.charges.proofs.Openings.{close-far}
+use Rattle.closing.specs.Closing.{mayClose}
+use Rattle.closing.proofs.Closing.{close-far}
 use Rattle.energy_rule.specs.Memory.{table}
 use Rattle.energy_reach.specs.Reach.{inside}
 use Rattle.energy_trace.specs.Choosing.{orArms, closedMove}

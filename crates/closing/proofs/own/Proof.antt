@@ -1,4 +1,4 @@
--- `charges::own` meets its contract: the sides and the numbers of the pairs are the definition's, and such a loop has a figure.
+-- `closing::own` meets its contract: the sides and the numbers of the pairs are the definition's, and such a loop has a figure.
 use mathlib.Core.Path.{sym, subst, _∙_}
 use Prim.Native.Nat.{_+_, _-_}
 use native.Mathlib.Omega.{arith}
@@ -10,9 +10,9 @@ use Rattle.ints.proofs.Ints.{is}
 use Rattle.figures.specs.Charge.{Figured}
 use Rattle.figures.specs.declared.Loop.{Loop}
 use Rattle.figures.proofs.Flanks.{between-figured}
-use Rattle.charges.proofs.Charged.{own-is}
-use Rattle.charges.proofs.own.Statement.{statement}
-use Rattle.charges.proofs.own.Tie as tie
+use Rattle.closing.proofs.Closing.{own-is}
+use Rattle.closing.proofs.own.Statement.{statement}
+use Rattle.closing.proofs.own.Tie as tie
 
 shared-slice-read-pair-index : tie.Need-shared-slice-read-pair-index
 shared-slice-read-pair-index c = search needs

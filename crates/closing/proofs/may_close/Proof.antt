@@ -1,8 +1,8 @@
--- `charges::may_close` meets its contract: the room between is asked of where the bases pair.
+-- `closing::may_close` meets its contract: the room between is asked of where the bases pair.
 use borrow.Author.Needs.{needs}
-use Rattle.charges.specs.Loops.{mayClose}
-use Rattle.charges.proofs.may_close.Statement.{statement}
-use Rattle.charges.proofs.may_close.Tie as tie
+use Rattle.closing.specs.Closing.{mayClose}
+use Rattle.closing.proofs.may_close.Statement.{statement}
+use Rattle.closing.proofs.may_close.Tie as tie
 
 shared-slice-read-can-pair : tie.Need-shared-slice-read-can-pair
 shared-slice-read-can-pair c = search needs

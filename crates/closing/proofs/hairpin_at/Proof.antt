@@ -1,4 +1,4 @@
--- `charges::hairpin_at` meets its contract: the size and the two bases are the definition's.
+-- `closing::hairpin_at` meets its contract: the size and the two bases are the definition's.
 use mathlib.Core.Path.{_∙_}
 use Prim.Native.Nat.{_+_, _-_}
 use native.Mathlib.Omega.{arith}
@@ -6,10 +6,9 @@ use borrow.Author.Needs.{needs}
 use denote.Ref.{now}
 use Rattle.structure.specs.Table.{view}
 use Rattle.ints.proofs.Ints.{is}
-use Rattle.charges.proofs.Charged.{hairpin-is}
-use Rattle.charges.proofs.Openings.{purines-le}
-use Rattle.charges.proofs.hairpin_at.Statement.{statement}
-use Rattle.charges.proofs.hairpin_at.Tie as tie
+use Rattle.closing.proofs.Closing.{hairpin-is, purines-le}
+use Rattle.closing.proofs.hairpin_at.Statement.{statement}
+use Rattle.closing.proofs.hairpin_at.Tie as tie
 
 add-t4 : tie.Need-add-t4
 add-t4 c = search needs

@@ -1,13 +1,13 @@
--- `charges::purines` meets its contract: each base counts as its test says.
+-- `closing::purines` meets its contract: each base counts as its test says.
 use mathlib.Core.Bool.{Bool, cond}
 use mathlib.Core.Path.{ap, ap₂, _∙_}
 use Prim.Native.Nat.{ℕ, _+_}
 use native.Mathlib.Omega.{arith}
 use borrow.Author.Needs.{needs}
-use Rattle.charges.specs.Loops.{purines}
-use Rattle.charges.proofs.Openings.{one-le}
-use Rattle.charges.proofs.purines.Statement.{statement}
-use Rattle.charges.proofs.purines.Tie as tie
+use Rattle.closing.specs.Closing.{purines}
+use Rattle.closing.proofs.Closing.{one-le}
+use Rattle.closing.proofs.purines.Statement.{statement}
+use Rattle.closing.proofs.purines.Tie as tie
 
 is-purine-requires : tie.Need-is-purine-requires
 is-purine-requires c κs = search needs
