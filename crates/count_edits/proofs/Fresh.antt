@@ -29,7 +29,7 @@ use Rattle.counting.proofs.MostPairs.{most-pairs, fold-taken}
 use Rattle.count_edits.specs.declared.Traced.the-variants.{Pairs}
 use Rattle.count_edits.specs.Calls.{Traces}
 use Rattle.count_edits.specs.Histories.{State, state, Call, AsFolded}
-use Rattle.count_edits.proofs.Believable.{trace-clear}
+use Rattle.count_edits.proofs.Accepted.{trace-clear}
 use Rattle.count_edits.proofs.Good.{counts, good-fold, good-accepted, good-run}
 
 -- two lists agree on the first n entries

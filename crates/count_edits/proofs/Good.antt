@@ -31,7 +31,7 @@ use Rattle.counting.proofs.Accepted.{foldable, accepted as allowed}
 use Rattle.count_edits.specs.declared.Edited.{Edited}
 use Rattle.count_edits.specs.declared.Edited.the-variants.{Done, Refused}
 use Rattle.count_edits.specs.Histories.{State, state, Meets, outcome, Call}
-use Rattle.count_edits.proofs.Believable.{replace-clear, add-clear, erase-clear}
+use Rattle.count_edits.proofs.Accepted.{replace-clear, add-clear, erase-clear}
 
 -- ---- pair counting as a kind of fold with edits
 

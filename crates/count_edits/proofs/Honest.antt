@@ -24,9 +24,10 @@ use Rattle.counting.specs.declared.Record.{Record}
 use Rattle.counting.specs.declared.Counted.the-variants.{Folded}
 use Rattle.counting.specs.Checks.{foldDue}
 use Rattle.counting.specs.Calls.{Folds}
-use Rattle.count_edits.specs.Checks.{allKept, keptDue, traceDue}
+use Rattle.count_kept.specs.Checks.{allKept, keptDue}
+use Rattle.count_kept.proofs.Believable.{believed}
+use Rattle.count_edits.specs.Checks.{traceDue}
 use Rattle.count_edits.specs.Histories.{State, state, Call}
-use Rattle.count_edits.proofs.Believable.{believed}
 use Rattle.count_edits.proofs.Good.{counts, good-accepted, good-run}
 
 -- nothing is due of a good state

@@ -1,5 +1,5 @@
 -- The theorems of the edits of a pair count, and of the traceback from its record.
-pub mod Believable
+pub mod Accepted
 pub mod OneAnswer
 pub mod Good
 pub mod Fresh

@@ -8,7 +8,7 @@ use Rattle.counting.specs.declared.Record.{Record}
 use Rattle.count_edits.specs.declared.Traced.{Traced}
 use Rattle.count_edits.specs.declared.Traced.the-variants.{Pairs, Refused as TraceRefused}
 use Rattle.count_edits.specs.Calls.{Traces}
-use Rattle.count_edits.proofs.Believable.{trace-clear}
+use Rattle.count_edits.proofs.Accepted.{trace-clear}
 
 pub traceback-spare : (r : Record) (b t o o′ : List ℕ) (a : Traced) → Traces r b t o o′ a → Spared (r .length) o o′
 traceback-spare r b t o o′ (Pairs m) c = rw (c .1)

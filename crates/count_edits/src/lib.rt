@@ -1,13 +1,10 @@
 // Edits of a fold that counted pairs, and the traceback from its record, over the memory that the caller kept.
-use crate::kept::kept_checks;
 use bases::Reading;
 use counting::Record;
 use refusals::FOLD_LIMIT;
 use refusals::Refusal;
 use refusals::Verdict;
 ghost use Rattle.count_edits.specs.Calls.{Replaces, Adds, Erases, Traces};
-
-mod kept;
 
 // The place that is told of an edit's byte, which is its only one.
 const EDIT_PLACE: usize = 0;
@@ -35,7 +32,7 @@ pub fn replace(
     ensures { λ r. ⌜ Replaces held (now (bases .entry)) (now (bases .exit)) (now (cells .entry)) (now (cells .exit)) position byte r ⌝ }
 {
     let n = held.length;
-    let verdict = kept_checks(n, bases, cells);
+    let verdict = count_kept::kept_checks(n, bases, cells);
     if let Verdict::Refuse(refusal) = verdict {
         return Edited::Refused(refusal, held);
     }
@@ -56,7 +53,7 @@ pub fn add(held: Record, bases: &mut [u8], cells: &mut [u16], byte: u8) -> Edite
     ensures { λ r. ⌜ Adds held (now (bases .entry)) (now (bases .exit)) (now (cells .entry)) (now (cells .exit)) byte r ⌝ }
 {
     let n = held.length;
-    let verdict = kept_checks(n, bases, cells);
+    let verdict = count_kept::kept_checks(n, bases, cells);
     if let Verdict::Refuse(refusal) = verdict {
         return Edited::Refused(refusal, held);
     }
@@ -91,7 +88,7 @@ pub fn erase(held: Record, bases: &[u8], cells: &[u16]) -> Edited
     ensures { λ r. ⌜ Erases held (now (bases .entry)) (now (cells .entry)) r ⌝ }
 {
     let n = held.length;
-    let verdict = kept_checks(n, bases, cells);
+    let verdict = count_kept::kept_checks(n, bases, cells);
     if let Verdict::Refuse(refusal) = verdict {
         return Edited::Refused(refusal, held);
     }
@@ -114,7 +111,7 @@ pub fn traceback(held: Record, bases: &[u8], cells: &[u16], pairs: &mut [u16]) -
     ensures { λ r. ⌜ Traces held (now (bases .entry)) (now (cells .entry)) (now (pairs .entry)) (now (pairs .exit)) r ⌝ }
 {
     let n = held.length;
-    let verdict = kept_checks(n, bases, cells);
+    let verdict = count_kept::kept_checks(n, bases, cells);
     if let Verdict::Refuse(refusal) = verdict {
         return Traced::Refused(refusal);
     }

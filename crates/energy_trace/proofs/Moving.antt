@@ -15,10 +15,11 @@ use Rattle.ints.proofs.Ints.{either}
 use Rattle.closing.specs.Closing.{mayClose, hairpinAt}
 use Rattle.closing.proofs.Closing.{close-far}
 use Rattle.energy_rule.specs.Rule.{Table, closingCharge, armCharge}
-use Rattle.energy_reach.specs.Reach.{same, splitting, reaches, inside}
-use Rattle.energy_reach.specs.declared.Within.{Within}
-use Rattle.energy_reach.specs.declared.Within.the-variants.{Pair, Nowhere}
-use Rattle.energy_reach.proofs.Searching.{splitting-in, inside-in}
+use Rattle.energy_reach.specs.Reach.{same, reaches}
+use Rattle.energy_search.specs.Search.{splitting, inside}
+use Rattle.energy_search.specs.declared.Within.{Within}
+use Rattle.energy_search.specs.declared.Within.the-variants.{Pair, Nowhere}
+use Rattle.energy_search.proofs.Searching.{splitting-in, inside-in}
 use Rattle.energy_trace.specs.Choosing.{orSplit, shorter, anyMove, armsMove, orArms, closedMove, moveOf}
 use Rattle.energy_trace.specs.Trace.{Spot}
 use Rattle.energy_trace.specs.declared.choice.Job.{Job}

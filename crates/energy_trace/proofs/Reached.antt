@@ -36,10 +36,11 @@ use Rattle.energy_rule.proofs.Parts.{lowest-is, may-far, Cut, Inner, inner-none
 use Rattle.energy_rule.proofs.Laws.{Ruled, right-ruled, real-may, v-real, v-step, hairpins, inners, branches, m-step, helix, m-skip, m-last, m-split, w-most, w-step, bare, pairs, w-skip, w-last, w-split}
 use Rattle.energy_rule.proofs.Steps.{any-bare, any-skip, any-last, any-pair, any-split, arms-skip, arms-last, arms-helix, arms-split, blank-joined, pair-hairpin, pair-inner, pair-arms}
 use Rattle.energy_rule.proofs.Built.{any-exact}
-use Rattle.energy_reach.specs.Reach.{same, splitAt, splitting, reaches, innerRow, inside}
-use Rattle.energy_reach.specs.declared.Within.{Within}
-use Rattle.energy_reach.specs.declared.Within.the-variants.{Pair, Nowhere}
-use Rattle.energy_reach.proofs.Searching.{Scanned, hits, misses, scanned}
+use Rattle.energy_reach.specs.Reach.{same, splitAt, reaches}
+use Rattle.energy_search.specs.Search.{splitting, innerRow, inside}
+use Rattle.energy_search.specs.declared.Within.{Within}
+use Rattle.energy_search.specs.declared.Within.the-variants.{Pair, Nowhere}
+use Rattle.energy_search.proofs.Searching.{Scanned, hits, misses, scanned}
 use Rattle.energy_trace.specs.Choosing.{orSplit, shorter, anyMove, armsMove, orArms, closedMove, moveOf}
 use Rattle.energy_trace.specs.Trace.{act, traceOf, tracedOf}
 use Rattle.energy_trace.specs.declared.choice.Job.{Job}

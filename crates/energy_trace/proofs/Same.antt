@@ -25,9 +25,10 @@ use Rattle.energy_rule.specs.Rule.{Table, Cell, closingCharge, armCharge, inner
 use Rattle.energy_rule.specs.Memory.{table, three}
 use Rattle.energy_rule.proofs.Parts.{lowest-is, may-far}
 use Rattle.energy_rule.proofs.Ruling.{may-local, own-local, hairpin-local}
-use Rattle.energy_reach.specs.Reach.{same, orElse, firstRow, splitAt, splitting, reaches, innerRow, inside}
-use Rattle.energy_reach.specs.declared.Within.{Within}
-use Rattle.energy_reach.specs.declared.Within.the-variants.{Pair, Nowhere}
+use Rattle.energy_reach.specs.Reach.{same, splitAt, reaches}
+use Rattle.energy_search.specs.Search.{orElse, firstRow, splitting, innerRow, inside}
+use Rattle.energy_search.specs.declared.Within.{Within}
+use Rattle.energy_search.specs.declared.Within.the-variants.{Pair, Nowhere}
 use Rattle.energy_trace.specs.Choosing.{orSplit, shorter, anyMove, armsMove, orArms, closedMove, moveOf}
 use Rattle.energy_trace.specs.Trace.{act, traceOf, tracedOf, Spot}
 use Rattle.energy_trace.specs.declared.choice.Job.{Job}

@@ -11,9 +11,10 @@ use Rattle.cells.specs.Rule.{Bases}
 use Rattle.ints.specs.Ints.{mark, addE}
 use Rattle.closing.specs.Closing.{mayClose, hairpinAt}
 use Rattle.energy_rule.specs.Rule.{Table, closingCharge, armCharge}
-use Rattle.energy_reach.specs.Reach.{same, splitting, reaches, inside}
-use Rattle.energy_reach.specs.declared.Within.{Within}
-use Rattle.energy_reach.specs.declared.Within.the-variants.{Pair, Nowhere}
+use Rattle.energy_reach.specs.Reach.{same, reaches}
+use Rattle.energy_search.specs.Search.{splitting, inside}
+use Rattle.energy_search.specs.declared.Within.{Within}
+use Rattle.energy_search.specs.declared.Within.the-variants.{Pair, Nowhere}
 use Rattle.energy_trace.specs.declared.choice.Job.{Job}
 use Rattle.energy_trace.specs.declared.choice.Job.the-variants.{Any, Arms, Closed}
 use Rattle.energy_trace.specs.declared.choice.Move.{Move}

@@ -1,5 +1,5 @@
 // What a traceback takes at a span: the first, in the original's order, of what reaches the cell's value.
-use energy_reach::Within;
+use energy_search::Within;
 use searches::Found;
 ghost use mathlib.Core.Path.{_≡_};
 ghost use Prim.Native.Nat.{_+_, _-_, _<_};
@@ -7,7 +7,7 @@ ghost use lib.ListN.{length};
 ghost use Rattle.structure.specs.Table.{view};
 ghost use Rattle.energy_rule.specs.Memory.{table};
 ghost use Rattle.energy_reach.specs.Reach.{Ready};
-ghost use Rattle.energy_reach.specs.declared.Within.the-variants.{Nowhere};
+ghost use Rattle.energy_search.specs.declared.Within.the-variants.{Nowhere};
 ghost use Rattle.energy_trace.specs.Choosing.{shorter, anyMove, armsMove, orArms, closedMove, moveOf};
 ghost use Rattle.energy_trace.specs.Trace.{Spot, Traceable};
 
@@ -97,7 +97,7 @@ fn shorter(job: Job, cells: &[i32], lo: usize, hi: usize) -> Move
     if energy_reach::alike(cells, lo, before, cells, lo, last) {
         return Move::Go(job, lo, last);
     }
-    match energy_reach::splitting(cells, lo, last) {
+    match energy_search::splitting(cells, lo, last) {
         Found::At(k) => Move::Twice(job, lo, k + 1, hi),
         Found::Nothing => Move::Stop,
     }
@@ -120,7 +120,7 @@ fn closed_move(bases: &[u8], paired: &[i32], arms: &[i32], i: usize, j: usize) -
     if energy_reach::inner(bases, paired, i, j, i + 1, j - 1) {
         return Move::Close(i + 1, j - 1);
     }
-    match energy_reach::inside(bases, paired, i, j) {
+    match energy_search::inside(bases, paired, i, j) {
         Within::Pair(x, y) => Move::Close(x, y),
         Within::Nowhere => around(paired, arms, i, j),
     }

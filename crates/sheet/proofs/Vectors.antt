@@ -19,7 +19,8 @@ use Rattle.figures.specs.Charge.{hairpin, mismatch, bulge, internal, stack, lon
 use Rattle.closing.specs.Closing.{mayClose, own, purines, hairpinAt}
 use Rattle.charges.specs.Loops.{arms, first, single, kindBy, kind, chargeBy, chargeAt, total}
 use Rattle.energy_rule.specs.Rule.{innerAt, lowest, innerFrom, interior, paired, splits, any, armed, energies}
-use Rattle.energy_reach.specs.Reach.{same, firstRow, splitAt, splitting, reaches, innerRow, inside}
+use Rattle.energy_reach.specs.Reach.{same, splitAt, reaches}
+use Rattle.energy_search.specs.Search.{firstRow, splitting, innerRow, inside}
 use Rattle.energy_trace.specs.Choosing.{shorter, anyMove, armsMove, closedMove, moveOf}
 use Rattle.energy_trace.specs.Trace.{traceOf, tracedOf}
 use Rattle.energy.specs.Calls.{energyAt}

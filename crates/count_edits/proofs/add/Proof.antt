@@ -10,8 +10,8 @@ use Rattle.refusals.specs.Refusals.{foldLimit}
 use Rattle.bases.proofs.Laws.{read-is, read-letter, read-none}
 use Rattle.cells.specs.Tri.{tri}
 use Rattle.cells.proofs.Places.{less-or}
+use Rattle.count_kept.proofs.Believable.{passed}
 use Rattle.count_edits.specs.Checks.{addDue}
-use Rattle.count_edits.proofs.Believable.{passed}
 use Rattle.count_edits.proofs.add.Statement.{statement}
 use Rattle.count_edits.proofs.add.Tie as tie
 

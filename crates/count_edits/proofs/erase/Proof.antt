@@ -5,8 +5,8 @@ use native.Mathlib.Omega.{arith}
 use borrow.Author.Needs.{needs}
 use borrow.Author.Tests.{eq-eqb, ne-eqb}
 use Rattle.cells.proofs.Places.{tri-mono}
+use Rattle.count_kept.proofs.Believable.{passed}
 use Rattle.count_edits.specs.Checks.{eraseDue}
-use Rattle.count_edits.proofs.Believable.{passed}
 use Rattle.count_edits.proofs.erase.Statement.{statement}
 use Rattle.count_edits.proofs.erase.Tie as tie
 

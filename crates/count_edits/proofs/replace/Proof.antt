@@ -5,8 +5,8 @@ use lib.ListN.{set, length-set}
 use borrow.Author.Needs.{needs}
 use borrow.Author.Tests.{le-leb, lt-leb}
 use Rattle.bases.proofs.Laws.{read-is, read-letter, read-none}
+use Rattle.count_kept.proofs.Believable.{passed}
 use Rattle.count_edits.specs.Checks.{replaceDue}
-use Rattle.count_edits.proofs.Believable.{passed}
 use Rattle.count_edits.proofs.replace.Statement.{statement}
 use Rattle.count_edits.proofs.replace.Tie as tie
 

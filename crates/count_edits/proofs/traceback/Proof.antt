@@ -3,8 +3,8 @@ use mathlib.Core.Path.{refl}
 use native.Mathlib.Omega.{arith}
 use borrow.Author.Needs.{needs}
 use borrow.Author.Tests.{lt-ltb, le-ltb}
+use Rattle.count_kept.proofs.Believable.{passed}
 use Rattle.count_edits.specs.Checks.{traceDue}
-use Rattle.count_edits.proofs.Believable.{passed}
 use Rattle.count_edits.proofs.traceback.Statement.{statement}
 use Rattle.count_edits.proofs.traceback.Tie as tie
 

@@ -10,7 +10,7 @@ use Rattle.structure.specs.Table.{view}
 use Rattle.closing.specs.Closing.{mayClose}
 use Rattle.closing.proofs.Closing.{close-far}
 use Rattle.energy_rule.specs.Memory.{table}
-use Rattle.energy_reach.specs.Reach.{inside}
+use Rattle.energy_search.specs.Search.{inside}
 use Rattle.energy_trace.specs.Choosing.{orArms, closedMove}
 use Rattle.energy_trace.proofs.choice.closed_move.Statement.{statement}
 use Rattle.energy_trace.proofs.choice.closed_move.Tie as tie

@@ -1,10 +1,10 @@
--- `energy_reach::lowest` meets its contract: of the two bounds the larger, told apart by a sum. Assumes nothing.
+-- `energy_search::lowest` meets its contract: of the two bounds the larger, told apart by a sum. Assumes nothing.
 use native.Mathlib.Omega.{arith}
 use borrow.Author.Needs.{needs}
 use Rattle.figures.proofs.Charges.{longest-low}
 use Rattle.energy_rule.proofs.Parts.{lowest-is}
-use Rattle.energy_reach.proofs.lowest.Statement.{statement}
-use Rattle.energy_reach.proofs.lowest.Tie as tie
+use Rattle.energy_search.proofs.lowest.Statement.{statement}
+use Rattle.energy_search.proofs.lowest.Tie as tie
 
 add-near : tie.Need-add-near
 add-near c = omega (arith, longest-low)

@@ -6,7 +6,7 @@ ghost use mathlib.Core.Path.{_≡_};
 ghost use Prim.Native.Nat.{_≤_};
 ghost use lib.ListN.{length};
 ghost use Rattle.refusals.specs.Refusals.{told};
-ghost use Rattle.count_edits.specs.Checks.{allKept, keptDue};
+ghost use Rattle.count_kept.specs.Checks.{allKept, keptDue};
 
 // Whether each of the first n bytes is a letter as it is kept.
 fn all_kept(bases: &[u8], n: usize) -> bool

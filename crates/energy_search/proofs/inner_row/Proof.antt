@@ -1,4 +1,4 @@
--- `energy_reach::inner_row` meets its contract. The loop's invariant: what is to be found is found from y on. Assumes nothing.
+-- `energy_search::inner_row` meets its contract. The loop's invariant: what is to be found is found from y on. Assumes nothing.
 use mathlib.Core.Path.{_≡_, sym, ap, _∙_}
 use Prim.Native.Nat.{ℕ, _-_, _≤_}
 use native.Mathlib.Omega.{arith}
@@ -8,9 +8,10 @@ use Rattle.searches.proofs.First.{first-end, first-here, first-next}
 use Rattle.energy_rule.specs.Rule.{lowest}
 use Rattle.energy_rule.specs.Memory.{table}
 use Rattle.energy_rule.proofs.Parts.{lowest-is}
-use Rattle.energy_reach.specs.Reach.{reaches, innerRow}
-use Rattle.energy_reach.proofs.inner_row.Statement.{statement}
-use Rattle.energy_reach.proofs.inner_row.Tie as tie
+use Rattle.energy_reach.specs.Reach.{reaches}
+use Rattle.energy_search.specs.Search.{innerRow}
+use Rattle.energy_search.proofs.inner_row.Statement.{statement}
+use Rattle.energy_search.proofs.inner_row.Tie as tie
 
 abbrev Inv-loop : tie.InvT-loop
 Inv-loop bases paired i j x y₀ y =

@@ -12,9 +12,10 @@ use Rattle.cells.specs.Rule.{Bases}
 use Rattle.figures.specs.Figures.{longestSide}
 use Rattle.energy_rule.specs.Rule.{Table, lowest}
 use Rattle.energy_rule.proofs.Parts.{lowest-is}
-use Rattle.energy_reach.specs.Reach.{orElse, firstRow, splitAt, splitting, reaches, innerRow, inside}
-use Rattle.energy_reach.specs.declared.Within.{Within}
-use Rattle.energy_reach.specs.declared.Within.the-variants.{Pair, Nowhere}
+use Rattle.energy_reach.specs.Reach.{splitAt, reaches}
+use Rattle.energy_search.specs.Search.{orElse, firstRow, splitting, innerRow, inside}
+use Rattle.energy_search.specs.declared.Within.{Within}
+use Rattle.energy_search.specs.declared.Within.the-variants.{Pair, Nowhere}
 
 -- ---- along rows: at k, of what is left before j; r is what its row finds
 module _ (row : ℕ → Found) where

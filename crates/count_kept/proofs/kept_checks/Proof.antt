@@ -1,12 +1,12 @@
--- `count_edits::kept::kept_checks` meets its contract: each refusal is the first that the row finds. Assumes nothing.
+-- `count_kept::kept_checks` meets its contract: each refusal is the first that the row finds. Assumes nothing.
 use native.Mathlib.Omega.{arith}
 use lib.ListN.{length}
 use borrow.Author.Needs.{needs}
 use borrow.Author.Tests.{eq-eqb, ne-eqb, lt-ltb, le-ltb}
 use Rattle.cells.specs.Tri.{tri}
-use Rattle.count_edits.specs.Checks.{keptDue}
-use Rattle.count_edits.proofs.kept.kept_checks.Statement.{statement}
-use Rattle.count_edits.proofs.kept.kept_checks.Tie as tie
+use Rattle.count_kept.specs.Checks.{keptDue}
+use Rattle.count_kept.proofs.kept_checks.Statement.{statement}
+use Rattle.count_kept.proofs.kept_checks.Tie as tie
 
 returns : tie.Need-returns
 unfolding keptDue

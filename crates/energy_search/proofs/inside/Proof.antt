@@ -1,4 +1,4 @@
--- `energy_reach::inside` meets its contract. The loop's invariant: what is to be found is found in the rows from x on. Assumes nothing.
+-- `energy_search::inside` meets its contract. The loop's invariant: what is to be found is found in the rows from x on. Assumes nothing.
 use mathlib.Core.Path.{_≡_, sym, ap, _∙_}
 use Prim.Native.Nat.{suc, _+_, _-_, _≤_, min}
 use native.Mathlib.Omega.{arith}
@@ -6,10 +6,10 @@ use borrow.Author.Needs.{needs}
 use Rattle.structure.specs.Table.{view}
 use Rattle.figures.specs.Figures.{longestSide}
 use Rattle.energy_rule.specs.Memory.{table}
-use Rattle.energy_reach.specs.Reach.{firstRow, innerRow, inside}
-use Rattle.energy_reach.proofs.Searching.{rows-end, rows-here, rows-next}
-use Rattle.energy_reach.proofs.inside.Statement.{statement}
-use Rattle.energy_reach.proofs.inside.Tie as tie
+use Rattle.energy_search.specs.Search.{firstRow, innerRow, inside}
+use Rattle.energy_search.proofs.Searching.{rows-end, rows-here, rows-next}
+use Rattle.energy_search.proofs.inside.Statement.{statement}
+use Rattle.energy_search.proofs.inside.Tie as tie
 
 abbrev Inv-loop : tie.InvT-loop
 Inv-loop bases paired i j end x₀ x =

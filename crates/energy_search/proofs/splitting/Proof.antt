@@ -1,4 +1,4 @@
--- `energy_reach::splitting` meets its contract. The loop's invariant: what is to be found is found from k on. Assumes nothing.
+-- `energy_search::splitting` meets its contract. The loop's invariant: what is to be found is found from k on. Assumes nothing.
 use mathlib.Core.Path.{_≡_, refl, sym, _∙_}
 use Prim.Native.Nat.{_+_, _-_, _≤_}
 use native.Mathlib.Omega.{arith}
@@ -6,9 +6,10 @@ use Rattle.searches.specs.First.{firstOf}
 use Rattle.searches.proofs.First.{first-end, first-here, first-next}
 use Rattle.figures.proofs.Charges.{longest-low}
 use Rattle.energy_rule.specs.Memory.{table}
-use Rattle.energy_reach.specs.Reach.{splitAt, splitting}
-use Rattle.energy_reach.proofs.splitting.Statement.{statement}
-use Rattle.energy_reach.proofs.splitting.Tie as tie
+use Rattle.energy_reach.specs.Reach.{splitAt}
+use Rattle.energy_search.specs.Search.{splitting}
+use Rattle.energy_search.proofs.splitting.Statement.{statement}
+use Rattle.energy_search.proofs.splitting.Tie as tie
 
 abbrev Inv-loop : tie.InvT-loop
 Inv-loop cells i j k₀ k = (i + 1 ≤ k) × (splitting (table cells) i j ≡ firstOf (splitAt (table cells) i j) k (j - k))

@@ -1,4 +1,4 @@
--- `count_edits::kept::all_kept` meets its contract. The loop's invariant: the bytes before `k` pass the test. Assumes nothing.
+-- `count_kept::all_kept` meets its contract. The loop's invariant: the bytes before `k` pass the test. Assumes nothing.
 use mathlib.Core.Path.{_≡_, refl, sym, ap, _∙_}
 use mathlib.Core.Bool.{true}
 use Prim.Native.Nat.{_-_, _≤_}
@@ -7,9 +7,9 @@ use borrow.Author.Needs.{needs}
 use borrow.Author.Tests.{not-true, not-false}
 use Rattle.cells.specs.Solve.{every}
 use Rattle.cells.proofs.Solves.{every-more, every-stop}
-use Rattle.count_edits.specs.Checks.{allKept}
-use Rattle.count_edits.proofs.kept.all_kept.Statement.{statement}
-use Rattle.count_edits.proofs.kept.all_kept.Tie as tie
+use Rattle.count_kept.specs.Checks.{allKept}
+use Rattle.count_kept.proofs.all_kept.Statement.{statement}
+use Rattle.count_kept.proofs.all_kept.Tie as tie
 
 abbrev Inv-loop : tie.InvT-loop
 Inv-loop bases n k₀ k = (k ≤ n) × (allKept bases k ≡ true)

@@ -1,0 +1,2 @@
+-- The laws of believable records.
+pub mod Believable

@@ -1,0 +1,2 @@
+-- What the contracts of every call from a record cite.
+pub mod Checks

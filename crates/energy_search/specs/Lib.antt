@@ -1,0 +1,2 @@
+-- What the contracts of `energy_search` cite.
+pub mod Search
