@@ -1,4 +1,4 @@
-// What a closing pair costs by its bases and places, with no inner pair or with one: all that a fold asks of the loop rules.
+// What a closing pair costs by its bases and places, with no inner pair or with one: all that a fold asks of the bases of a loop.
 use figures::Loop;
 use figures::SMALLEST_HAIRPIN;
 ghost use mathlib.Core.Path.{_≡_};
