@@ -1,9 +1,11 @@
 // Bases: which byte is which base, the letter that is kept of it, and which bases pair.
 // Every function takes any byte and refuses by its answer; specs/Bases.antt has the letters and the six pairs.
+#![tactic(auto)]
+
 ghost use Rattle.std.specs.Prelude.{◌≡◌};
 ghost use Rattle.bases.specs.Bases.{told, reads, letter_of, is_kept, can_pair, pair_index, is_purine};
 
-#[derive(Drop)]
+#[derive(Clone, Copy)]
 pub enum Base {
     A,
     C,
@@ -12,12 +14,13 @@ pub enum Base {
 }
 
 // What reading a byte finds: a base, or that there is none (refusal 2).
-#[derive(Drop)]
+#[derive(Clone, Copy)]
 pub enum Reading {
     Is(Base),
     Nothing,
 }
 
+#[tactic(auto, unfolding(crate::specs::Bases::reads))]
 pub fn read_base(byte: u8) -> Reading
     ensures { told result ≡ reads byte }
 {
@@ -60,6 +63,7 @@ pub fn is_kept(byte: u8) -> bool
 }
 
 // Whether two kept letters may pair: AU, UA, GC, CG, GU, UG. No other bytes do.
+#[tactic(auto, unfolding(crate::specs::Bases::can_pair))]
 pub fn can_pair(a: u8, b: u8) -> bool
     ensures { result ≡ can_pair a b }
 {
@@ -73,6 +77,7 @@ pub fn can_pair(a: u8, b: u8) -> bool
 }
 
 // The number of a pair in the order AU UA GC CG GU UG, by which the stack figures are laid out; 6 for bytes that don't pair.
+#[tactic(auto, unfolding(crate::specs::Bases::pair_index))]
 pub fn pair_index(a: u8, b: u8) -> usize
     ensures { result ≡ pair_index a b }
 {
@@ -100,6 +105,7 @@ pub fn pair_index(a: u8, b: u8) -> usize
 }
 
 // A and G are purines.
+#[tactic(auto, unfolding(crate::specs::Bases::is_purine))]
 pub fn is_purine(byte: u8) -> bool
     ensures { result ≡ is_purine byte }
 {

@@ -1,4 +1,6 @@
 // How far two structures of one length are apart: by their pairs, and by their mountains.
+#![tactic(auto)]
+
 ghost use Rattle.std.specs.Prelude.{◌≡◌, cond, ◌+◌, ◌-◌, ◌≤◌, eqb, length};
 ghost use Rattle.refusals.specs.Refusals.{structure_limit, told};
 ghost use Rattle.structure.specs.Table.{Sound, opens, closes};

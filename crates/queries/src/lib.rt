@@ -1,4 +1,6 @@
 // What is asked of a pair table: how many pairs, whether a position pairs and with whom, the list of pairs.
+#![tactic(auto)]
+
 ghost use Rattle.std.specs.Prelude.{◌≡◌, ◌++◌, ◌+◌, ◌*◌, ◌<◌, ◌≤◌, length, drop};
 ghost use Rattle.std.proofs.lemmas.List.Edits.{sets};
 ghost use Rattle.refusals.specs.Refusals.{structure_limit};
@@ -9,14 +11,14 @@ use refusals::{Refusal, Verdict};
 use structure::Answer;
 
 // Whether a position is paired, or the refusal.
-#[derive(Drop)]
+#[derive(Clone, Copy)]
 pub enum Pairing {
     Paired(bool),
     Refused(Refusal),
 }
 
 // A position's partner, that it has none, or the refusal.
-#[derive(Drop)]
+#[derive(Clone, Copy)]
 pub enum Mate {
     With(usize),
     Nobody,

@@ -1,9 +1,11 @@
 // Refusals: what a call may say no with, what a row of checks comes to, and how much the calls take.
 // The numbers and places are those of the table in docs/RULES.md; specs/Refusals.antt has them as definitions.
+#![tactic(auto)]
+
 ghost use Rattle.std.specs.Prelude.{◌≡◌};
 ghost use Rattle.refusals.specs.Refusals.{number, place};
 
-#[derive(Drop)]
+#[derive(Clone, Copy)]
 pub enum Refusal {
     // The sequence is empty, or an erase would empty it.
     Empty,
@@ -30,14 +32,14 @@ pub enum Refusal {
 }
 
 // Where a refusal points.
-#[derive(Drop)]
+#[derive(Clone, Copy)]
 pub enum Place {
     Nowhere,
     At(usize),
 }
 
 // What a row of checks comes to: nothing was found, or the first thing that was.
-#[derive(Drop)]
+#[derive(Clone, Copy)]
 pub enum Verdict {
     Clear,
     Refuse(Refusal),

@@ -1,4 +1,6 @@
 // Sequences to fold: whether every byte is a base, and the letters that are kept of them.
+#![tactic(auto)]
+
 ghost use Rattle.std.specs.Prelude.{◌≡◌, map, ◌++◌, ◌≤◌, length, drop};
 ghost use Rattle.bases.specs.Bases.{normal};
 ghost use Rattle.refusals.specs.Refusals.{told};

@@ -1,5 +1,7 @@
 // Structures: pair tables, and the check that one is sound. Knows nothing of folding.
 // A pair table is lent numbers of 16 bits, one a position: its partner, or 65535 where it is unpaired.
+#![tactic(auto)]
+
 ghost use Rattle.std.specs.Prelude.{◌≡◌, ◌+◌, ◌<◌, ◌≤◌, length};
 ghost use Rattle.refusals.specs.Refusals.{structure_limit, told, refuse};
 ghost use Rattle.refusals.specs.declared.Place.TheVariants.{At};
@@ -10,7 +12,7 @@ ghost use Rattle.structure.specs.Walking.{AllNamed, FirstUnnamed, Crossed, Cross
 use refusals::{Refusal, STRUCTURE_LIMIT, Verdict};
 
 // A whole number (positions, pairs or a distance), or the refusal.
-#[derive(Drop)]
+#[derive(Clone, Copy)]
 pub enum Answer {
     Number(usize),
     Refused(Refusal),

@@ -1,4 +1,6 @@
 // Writing pair tables: inner parts of every traceback. Who calls them has tested that the places are in the table.
+#![tactic(auto)]
+
 ghost use Rattle.std.specs.Prelude.{◌≡◌, ◌≤◌, ◌<◌, length};
 ghost use Rattle.structure.specs.Table.{unpaired};
 ghost use Rattle.tables.specs.Writing.{cleared, joined};

@@ -1,0 +1,26 @@
+use native.Mathlib.Omega.{arith}
+use lib.ListN.{length}
+use Rattle.structure.specs.Table.{view}
+use Rattle.structure.proofs.Checking.{tells_false, tells_map, no_escape}
+use Rattle.structure.proofs.nested.Goals as goal
+
+pub loop-i-init : goal.loop-i-init
+loop-i-init c = (omega arith, λ x l o h. absurd (omega arith))
+
+pub level-ok-requires : goal.level-ok-requires
+level-ok-requires c =
+    record { table_len_bound = omega arith; i_in_bounds = omega arith; all_named = c.requires.all_named; shut = λ x h. c.loop-i.invariant.1 x (omega arith) }
+
+pub returns-then-not-ok : goal.returns-then-not-ok
+returns-then-not-ok c = tells_false (c.level-ok.ensures.fails c.if-not-ok.true)
+
+pub loop-i-preserved : goal.loop-i-preserved
+loop-i-preserved c = (omega arith, c.level-ok.ensures.holds c.if-not-ok.false)
+
+pub walk-requires : goal.walk-requires
+walk-requires c =
+    record { table_len_bound = c.requires.table_len_bound; lo_le_hi = (omega arith, omega arith); all_named = c.requires.all_named; shut = λ x h. c.loop-i.invariant.1 x (omega arith) }
+
+pub returns : goal.returns
+returns c =
+    tells_map (λ f. f) (λ e. absurd (no_escape (view c.args.table.now) (length c.args.table.now) (omega arith) c.requires.all_named e)) c.walk.ensures
