@@ -1,7 +1,6 @@
 -- The surplus of the lent pair table is left, and so is its length, whatever a traceback answers. Assumes nothing.
 use mathlib.Core.List.{List}
 use Prim.Native.Nat.{ℕ}
-use lib.ListN.{length}
 use Rattle.sequences.proofs.Spared.{Spared, untouched}
 use Rattle.count_trace.proofs.Reached.{traced_long, traced_outside}
 use Rattle.counting.specs.declared.Record.{Record}

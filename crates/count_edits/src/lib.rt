@@ -1,4 +1,6 @@
 // Edits of a fold that counted pairs, and the traceback from its record, over the memory that the caller kept.
+#![tactic(auto)]
+
 ghost use Rattle.count_edits.specs.Calls.{Replaces, Adds, Erases, Traces};
 
 use bases::Reading;
@@ -9,14 +11,14 @@ use refusals::{FOLD_LIMIT, Refusal, Verdict};
 const EDIT_PLACE: usize = 0;
 
 // The record and the count after an edit, or the refusal with the record as it came.
-#[derive(Drop)]
+#[derive(Clone, Copy)]
 pub enum Edited {
     Done(Record, usize),
     Refused(Refusal, Record),
 }
 
 // The number of pairs traced, or the refusal.
-#[derive(Drop)]
+#[derive(Clone, Copy)]
 pub enum Traced {
     Pairs(usize),
     Refused(Refusal),
@@ -85,6 +87,7 @@ pub fn add(held: Record, bases: &mut [u8], cells: &mut [u16], byte: u8) -> Edite
 }
 
 // The last base is taken away; its byte and its cells stand, as spare memory. Checks 11, 4, 11, 1.
+#[tactic(auto, unfolding(crate::specs::Checks::erase_due))]
 pub fn erase(held: Record, bases: &[u8], cells: &[u16]) -> Edited
     ensures { Erases held bases.now cells.now result }
 {

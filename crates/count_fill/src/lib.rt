@@ -1,5 +1,7 @@
 // Filling the cells of the pair-count fold, in a lent triangle, column after column; and the test of believable cells.
 // One walk serves a fold and every edit: `columns` rewrites the rows up to `top` of the columns from `first` on.
+#![tactic(auto)]
+
 ghost use Rattle.std.specs.Prelude.{◌≡◌, ◌≤◌, ◌<◌, length};
 ghost use Rattle.cells.specs.Tri.{tri};
 ghost use Rattle.cells.specs.Fill.{at, FineElse, Columns};

@@ -1,4 +1,6 @@
 // What every call from a record asks first of it, and of the memory that the caller kept.
+#![tactic(auto)]
+
 ghost use Rattle.std.specs.Prelude.{◌≡◌, ◌≤◌, length};
 ghost use Rattle.refusals.specs.Refusals.{told};
 ghost use Rattle.count_kept.specs.Checks.{all_kept, kept_due};
@@ -21,6 +23,7 @@ fn all_kept(bases: &[u8], n: usize) -> bool
 }
 
 // 11 for the length, 4 for the present length, 11 for the contents: the length comes first, for all that follows reads by it.
+#[tactic(auto, unfolding(crate::specs::Checks::kept_due))]
 pub fn kept_checks(n: usize, bases: &[u8], cells: &[u16]) -> Verdict
     ensures { told result ≡ kept_due n bases.now cells.now }
 {

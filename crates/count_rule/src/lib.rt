@@ -1,4 +1,6 @@
 // The rule of pair counting: which positions may pair, the cell rule, and that its cells are the greatest counts (specs/, proofs/).
+#![tactic(auto)]
+
 ghost use Rattle.std.specs.Prelude.{◌≡◌, ◌&&◌, ltb};
 ghost use Rattle.bases.specs.Bases.{can_pair};
 

@@ -10,7 +10,7 @@ ghost use Rattle.count_trace.specs.Choosing.{closes_of, split_of, choice};
 use searches::Found;
 
 // What is taken at the span from i to j: i unpaired, i with j, a split after k, or j unpaired.
-#[derive(Drop)]
+#[derive(Clone, Copy)]
 pub enum Choice {
     FirstUnpaired,
     Paired,

@@ -1,4 +1,6 @@
 // The traceback of pair counting: the structure that a table of counts leads to, be the table right or wrong.
+#![tactic(auto)]
+
 ghost use Rattle.std.specs.Prelude.{◌≡◌};
 ghost use Rattle.cells.specs.Fill.{at};
 ghost use Rattle.structure.specs.Table.{view};

@@ -9,7 +9,7 @@ use lib.Seq.{get_or-take, length-take-le}
 use Rattle.refusals.specs.Refusals.{clear}
 use Rattle.bases.specs.Bases.{normal}
 use Rattle.sequences.proofs.Spared.{letters_front}
-use Rattle.structure.specs.Table.{view, pairs}
+use Rattle.structure.specs.Table.{view}
 use Rattle.structure.specs.Soundness.{table_due}
 use Rattle.structure.proofs.Folds.{moved}
 use Rattle.structure.proofs.Counts.{opened_moved}

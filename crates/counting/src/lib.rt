@@ -1,5 +1,7 @@
 // Counting pairs: the public fold, over memory that the caller lends.
 // The kept bases and the cells stay with the caller, so that edits can follow.
+#![tactic(auto)]
+
 ghost use Rattle.std.specs.Prelude.{◌≡◌, ◌≤◌, ◌<◌, length};
 ghost use Rattle.cells.specs.Tri.{tri};
 ghost use Rattle.counting.specs.Calls.{Folds, count_of};
@@ -7,14 +9,14 @@ ghost use Rattle.counting.specs.Calls.{Folds, count_of};
 use refusals::{FOLD_LIMIT, Refusal, Verdict};
 
 // What a fold leaves to edits: how many bases there are, and the gap.
-#[derive(Drop)]
+#[derive(Clone, Copy)]
 pub struct Record {
     pub length: usize,
     pub gap: usize,
 }
 
 // The record and the greatest number of pairs, or the refusal.
-#[derive(Drop)]
+#[derive(Clone, Copy)]
 pub enum Counted {
     Folded(Record, usize),
     Refused(Refusal),
@@ -30,6 +32,7 @@ pub fn count(cells: &[u16], n: usize) -> usize
 }
 
 // The most pairs that a sequence can have, with its letters, its cells and a structure that has so many. Checks 3, 1, 2, 4.
+#[tactic(auto, unfolding(crate::specs::Checks::fold_due))]
 pub fn nussinov(
     seq: &[u8],
     gap: usize,
