@@ -5,7 +5,7 @@ use mathlib.Core.Bool.{Bool, true, false, cond}
 use Prim.Native.Nat.{ℕ, zero, suc, ◌+◌, ◌-◌, ◌<◌, ◌≤◌}
 use native.Mathlib.Omega.{arith}
 use native.Mathlib.Decide.{ℕ_discrete}
-use lib.IntN.{ℤ, pos, ◌+ℤ◌}
+use lib.IntN.{pos, ◌+ℤ◌}
 use borrow.Author.Tests.{lt-ltb, le-ltb, eq-eqb, ne_eqb}
 use Rattle.structure.specs.Table.{unpaired, Fold}
 use Rattle.structure.proofs.Folds as folds

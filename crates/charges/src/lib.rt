@@ -1,5 +1,7 @@
 // What a structure costs: its first pair that may not close a loop, the kind and the charge of each loop, and the energy as the sum over the loops.
 // These are inner parts: who calls them has tested that the structure is sound and that each of its pairs may close a loop.
+#![tactic(auto)]
+
 ghost use Rattle.std.specs.Prelude.{◌≡◌, true, cond, ◌<◌, ◌≤◌, pos, length};
 ghost use Rattle.bases.specs.Bases.{can_pair};
 ghost use Rattle.structure.specs.Table.{view, Sound};
@@ -36,6 +38,7 @@ pub fn first_barred(bases: &[u8], pairs: &[u16]) -> usize
 }
 
 // The kind of the loop of i and j with the one inner pair x and y: many-armed only where that is cheaper, or a side is too long.
+#[tactic(auto, using(crate::proofs::Charged::single_left, crate::proofs::Charged::single_right))]
 fn single(bases: &[u8], i: usize, j: usize, x: usize, y: usize) -> Loop
     requires i_lt_x { (i < x) × (x < y) × (y < j) × (j < length bases.now) }
     requires j_value { (can_pair (view bases.now i) (view bases.now j) ≡ true) × (can_pair (view bases.now x) (view bases.now y) ≡ true) }

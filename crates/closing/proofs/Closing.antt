@@ -1,6 +1,5 @@
 -- Laws of closing pairs: what it says that one may close, the bounds of its figures, and these as the code finds them.
 use mathlib.Core.Path.{◌≡◌, refl, sym}
-use mathlib.Core.Logic.{◌≢◌}
 use Prim.Native.Nat.{ℕ, suc, ◌+◌, ◌-◌, ◌<◌, ◌≤◌}
 use mathlib.Core.Bool.{true, false, Bool, true≢false, cond, ◌&&◌}
 use native.Mathlib.Omega.{arith}

@@ -1,4 +1,6 @@
 // What a closing pair costs by its bases and places, with no inner pair or with one: all that a fold asks of the bases of a loop.
+#![tactic(auto)]
+
 ghost use Rattle.std.specs.Prelude.{◌≡◌, true, cond, suc, ◌-◌, ◌<◌, ◌≤◌, length};
 ghost use Rattle.bases.specs.Bases.{can_pair};
 ghost use Rattle.structure.specs.Table.{view};

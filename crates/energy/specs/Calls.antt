@@ -22,5 +22,6 @@ pub record Made (s b b' : List ℕ) (v w m v' w' m' : List ℤ) (o o' : List ℕ
 
 -- `zuker_mfe` of the sequence s
 abbrev pub Folds : List ℕ → (b b' : List ℕ) (v w m v' w' m' : List ℤ) (o o' : List ℕ) → Minimum → Type 0
-Folds s b b' v w m v' w' m' o o' (Energy z) = (fold_due s b v w m o ≡ clear) × Made s b b' v w m v' w' m' o o' × (z ≡ energy_at w' (length s))
+Folds s b b' v w m v' w' m' o o' (Energy z) =
+    (fold_due s b v w m o ≡ clear) × Made s b b' v w m v' w' m' o o' × (z ≡ energy_at w' (length s))
 Folds s b b' v w m v' w' m' o o' (Refused q) = (fold_due s b v w m o ≡ due_of q) × (b' ≡ b) × (v' ≡ v) × (w' ≡ w) × (m' ≡ m) × (o' ≡ o)

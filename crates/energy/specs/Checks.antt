@@ -7,7 +7,8 @@ use Rattle.cells.specs.Tri.{tri}
 
 -- there is no room for the letters, the cells of the three tables and the pairs of n bases
 abbrev pub no_room : List ℕ → (v w m : List ℤ) → List ℕ → ℕ → Bool
-no_room b v w m o n = ltb (length b) n || (ltb (length v) (tri n) || (ltb (length w) (tri n) || (ltb (length m) (tri n) || ltb (length o) n)))
+no_room b v w m o n =
+    ltb (length b) n || (ltb (length v) (tri n) || (ltb (length w) (tri n) || (ltb (length m) (tri n) || ltb (length o) n)))
 
 -- a fold of the sequence s, lent b, v, w, m and o: 3, 1, 2, 4
 unfoldable pub fold_due : List ℕ → List ℕ → (v w m : List ℤ) → List ℕ → Due

@@ -27,6 +27,7 @@ fn no_room(n: usize, bases: &[u8], paired: &[i32], any: &[i32], arms: &[i32], pa
 }
 
 // 3, 1, 2, 4.
+#[tactic(auto, unfolding(crate::specs::Checks::fold_due))]
 pub fn fold_checks(
     seq: &[u8],
     bases: &[u8],

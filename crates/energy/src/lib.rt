@@ -1,5 +1,7 @@
 // Least energy: the public fold, over memory that the caller lends.
 // The kept bases and the three tables stay with the caller.
+#![tactic(auto)]
+
 ghost use Rattle.std.specs.Prelude.{◌≡◌, ◌<◌, ◌≤◌, length};
 ghost use Rattle.refusals.specs.Refusals.{clear};
 ghost use Rattle.cells.specs.Tri.{tri};
@@ -12,7 +14,7 @@ use refusals::{Refusal, Verdict};
 mod checks;
 
 // The least energy in thousandths of kcal/mol, or the refusal.
-#[derive(Drop)]
+#[derive(Clone, Copy)]
 pub enum Minimum {
     Energy(i32),
     Refused(Refusal),
@@ -46,7 +48,8 @@ fn fold(
     pairs: &mut [u16],
 ) -> i32
     requires { fold_due seq.now bases.old paired.old any.old arms.old pairs.old ≡ clear }
-    ensures { Made seq.now bases.old bases.new paired.old any.old arms.old paired.new any.new arms.new pairs.old pairs.new × (result ≡ energy_at any.new (length seq.now)) }
+    ensures { Made seq.now bases.old bases.new paired.old any.old arms.old paired.new any.new arms.new pairs.old pairs.new
+        × (result ≡ energy_at any.new (length seq.now)) }
 {
     let n = seq.len();
     sequences::keep(seq, bases);

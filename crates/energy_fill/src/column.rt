@@ -38,7 +38,8 @@ fn close_all(
     to: usize,
     from: usize,
 )
-    requires { (to ≡ tri j) × (from ≤ j) × (tri (j + 1) ≤ length paired.old) × Before bases.now paired.old j × Sides sides.now × (tri j ≤ length arms.now) × Fine InRange (at (nums arms.now)) j }
+    requires { (to ≡ tri j) × (from ≤ j) × (tri (j + 1) ≤ length paired.old) × Before bases.now paired.old j
+        × Sides sides.now × (tri j ≤ length arms.now) × Fine InRange (at (nums arms.now)) j }
     ensures { Started (closed (view bases.now) (table paired.old) (table arms.now) j) (nums paired.old) (nums paired.new) j (from + 1) }
 {
     let mut i = 0;
@@ -59,7 +60,8 @@ fn begin(
     charge: i32,
     limit: i32,
 )
-    requires { (to ≡ tri j) × (rows ≤ j) × (tri (j + 1) ≤ length paired.now) × (tri (j + 1) ≤ length cells.old) × Small charge × Smalls (nums paired.now) to rows }
+    requires { (to ≡ tri j) × (rows ≤ j) × (tri (j + 1) ≤ length paired.now) × (tri (j + 1) ≤ length cells.old)
+        × Small charge × Smalls (nums paired.now) to rows }
     ensures { Started (begun charge limit (table paired.now) (table cells.old) j) (nums cells.old) (nums cells.new) j rows }
 {
     let back = to - j;
@@ -83,7 +85,8 @@ fn start(
     charge: i32,
     limit: i32,
 )
-    requires { (to ≡ tri j) × (from ≤ j) × (tri (j + 1) ≤ length paired.now) × (tri (j + 1) ≤ length cells.old) × Small charge × Smalls (nums paired.now) to (from + 1) }
+    requires { (to ≡ tri j) × (from ≤ j) × (tri (j + 1) ≤ length paired.now) × (tri (j + 1) ≤ length cells.old)
+        × Small charge × Smalls (nums paired.now) to (from + 1) }
     ensures { Started (begun charge limit (table paired.now) (table cells.old) j) (nums cells.old) (nums cells.new) j (from + 1) }
 {
     let rows = cells::smaller(j, from + 1);
@@ -121,7 +124,9 @@ fn lift(cells: &mut [i32], at: usize, v: i32)
 
 // The split after r - 1 of rows 0 to `from` of column j. In row r - 1 it leaves that base unpaired, whatever its own cell holds.
 fn take(cells: &mut [i32], j: usize, col: usize, to: usize, from: usize, r: usize, v: i32)
-    requires { (0 < r) × (r ≤ j) × (from ≤ j) × (j < longest + 2) × (to ≡ tri j) × (col ≡ tri (r - 1)) × (tri (j + 1) ≤ length cells.old) × (v ≡ at (nums cells.old) r j) × Fine InRange (at (nums cells.old)) (j + 1) }
+    requires { (0 < r) × (r ≤ j) × (from ≤ j) × (j < longest + 2) × (to ≡ tri j) × (col ≡ tri (r - 1))
+        × (tri (j + 1) ≤ length cells.old) × (v ≡ at (nums cells.old) r j)
+        × Fine InRange (at (nums cells.old)) (j + 1) }
     ensures { Taken minℤ link (nums cells.old) (nums cells.old) (nums cells.new) j from (r - 1) }
 {
     lower(cells, col, to, cells::smaller(r - 1, from + 1), v);
@@ -133,7 +138,8 @@ fn take(cells: &mut [i32], j: usize, col: usize, to: usize, from: usize, r: usiz
 
 // Every split of rows 0 to `from` of column j, from the last to the first: when (r, j) is final, it is taken into the rows before it.
 fn settle(cells: &mut [i32], j: usize, to: usize, from: usize)
-    requires { (to ≡ tri j) × (from ≤ j) × (j < longest + 2) × (tri (j + 1) ≤ length cells.old) × Fine InRange (at (nums cells.old)) (j + 1) }
+    requires { (to ≡ tri j) × (from ≤ j) × (j < longest + 2) × (tri (j + 1) ≤ length cells.old)
+        × Fine InRange (at (nums cells.old)) (j + 1) }
     ensures { Settled minℤ link InRange (nums cells.new) (nums cells.old) (nums cells.new) j from 0 }
 {
     let mut r = j;

@@ -1,5 +1,7 @@
-// Filling the three tables of the least_energy fold, in lent triangles, column after column.
+// Filling the three tables of the least-energy fold, in lent triangles, column after column.
 // One walk serves a fold and every edit: `columns` rewrites the rows up to `top` of the columns from `first` on.
+#![tactic(auto)]
+
 ghost use Rattle.std.specs.Prelude.{◌≤◌};
 ghost use Rattle.structure.specs.Table.{view};
 ghost use Rattle.cells.specs.Fill.{at, FineElse, Columns};

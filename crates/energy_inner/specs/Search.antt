@@ -38,7 +38,8 @@ low_end i = i + 2 + smallest_hairpin
 
 -- the inner pairs that end at q and leave the right side r: no stack and no bulge of one base
 unfoldable pub side_to : (ℕ → ℤ) → (ℕ → ℤ) → ℕ → ℕ → ℕ → ℤ
-side_to v s i r q = min_from (charged v s (place (i + 1) q) (suc longest_side * r)) (2 - r) (min (suc longest_side) (q + 1 - low_end i) - (2 - r))
+side_to v s i r q =
+    min_from (charged v s (place (i + 1) q) (suc longest_side * r)) (2 - r) (min (suc longest_side) (q + 1 - low_end i) - (2 - r))
 
 -- those of (i, j) with the right side r
 unfoldable pub side : (ℕ → ℤ) → (ℕ → ℤ) → ℕ → ℕ → ℕ → ℤ

@@ -1,4 +1,6 @@
 // The search for the one inner pair of a loop: the stack and the two bulges of one base by their own figures, all others by runs over contiguous cells.
+#![tactic(auto)]
+
 ghost use Rattle.std.specs.Prelude.{◌≡◌, true, ℕ, suc, ◌+◌, ◌-◌, ◌≤◌, ◌<◌, length};
 ghost use Rattle.structure.specs.Table.{view};
 ghost use Rattle.cells.specs.Tri.{tri};
@@ -36,7 +38,8 @@ fn run(paired: &[i32], sides: &[i32], from: usize, row: usize, lo: usize, hi: us
 
 // The least of the inner pairs with two bases or more beside them: one run for each right side, whose cells and charges both lie side by side.
 fn near(paired: &[i32], sides: &[i32], i: usize, j: usize) -> i32
-    requires { (i + smallest_hairpin < j) × (j < longest + 2) × (tri j ≤ length paired.now) × Fine InRange (at (nums paired.now)) j × Sides sides.now }
+    requires { (i + smallest_hairpin < j) × (j < longest + 2) × (tri j ≤ length paired.now)
+        × Fine InRange (at (nums paired.now)) j × Sides sides.now }
     ensures { result ≡ near (nums paired.now) (nums sides.now) i j }
 {
     let low = i + 2 + figures::SMALLEST_HAIRPIN;

@@ -1,4 +1,4 @@
--- What the contracts of the least_energy fold cite.
+-- What the contracts of the least-energy fold cite.
 pub mod Rule
 pub mod Bounds
 pub mod Memory

@@ -1,4 +1,4 @@
--- The cell rules of the least_energy fold, in thousandths. A cell is a triple: the least with i and j paired, the least of any structure on the
+-- The cell rules of the least-energy fold, in thousandths. A cell is a triple: the least with i and j paired, the least of any structure on the
 -- span, the least of the span as one or more arms. Assumes nothing: these are definitions.
 use Rattle.std.specs.Prelude.{cond, ℕ, suc, ◌+◌, ◌-◌, ◌*◌, min, max, ltb, ℤ, pos}
 use Rattle.cells.specs.Rule.{Bases, Cells, Rule}

@@ -1,4 +1,6 @@
 // Searches for the first candidate that reaches the value of the cell (i, j).
+#![tactic(auto)]
+
 ghost use Rattle.std.specs.Prelude.{◌≡◌, true, suc, ◌+◌, ◌-◌, ◌≤◌, ◌<◌, length};
 ghost use Rattle.structure.specs.Table.{view};
 ghost use Rattle.figures.specs.Figures.{longest, longest_side};
@@ -15,7 +17,7 @@ use searches::Found;
 const NEAREST: usize = SMALLEST_HAIRPIN + 1;
 
 // What the search for an inner pair finds.
-#[derive(Drop)]
+#[derive(Clone, Copy)]
 pub enum Within {
     Pair(usize, usize),
     Nowhere,

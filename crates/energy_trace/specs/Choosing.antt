@@ -1,5 +1,5 @@
--- What a traceback takes at a span: the first, in the original's order, of what reaches the cell's value. v, w and m are the cells with i and j
--- paired, of any structure, and as arms. Spans are from lo up to, but not including, hi. Assumes nothing: these are definitions.
+-- What a traceback takes at a span: the first, in the original's order, of what reaches the cell's value. v, w and m are the cells with i
+-- and j paired, of any structure, and as arms. Spans are from lo up to, but not including, hi. Assumes nothing: these are definitions.
 use Rattle.std.specs.Prelude.{cond, ℕ, ◌+◌, ◌-◌, ltb, pos}
 use Rattle.std.specs.Int.Signed.{lt_z}
 use Rattle.searches.specs.declared.Found.{Found}

@@ -11,7 +11,7 @@ use energy_search::Within;
 use searches::Found;
 
 // What a traceback is of: any structure of a span, arms of a span, or the inside of a pair.
-#[derive(Drop)]
+#[derive(Clone, Copy)]
 pub enum Job {
     Any,
     Arms,
@@ -19,7 +19,7 @@ pub enum Job {
 }
 
 // What it does next: nothing, one shorter span, a pair and its inside, or two shorter spans that meet.
-#[derive(Drop)]
+#[derive(Clone, Copy)]
 pub enum Move {
     Stop,
     Go(Job, usize, usize),

@@ -1,4 +1,6 @@
-// The tracebacks of the least_energy fold: the structure that the three tables lead to, be they right or wrong.
+// The tracebacks of the least-energy fold: the structure that the three tables lead to, be they right or wrong.
+#![tactic(auto)]
+
 ghost use Rattle.std.specs.Prelude.{◌≡◌, ◌≤◌, ◌<◌, length};
 ghost use Rattle.structure.specs.Table.{view};
 ghost use Rattle.energy_rule.specs.Memory.{table};

@@ -1,5 +1,7 @@
 // What a loop costs, by its kind and sizes alone: no structure and no bases are known here.
 // These are inner parts: who calls them has tested that the loop has a figure.
+#![tactic(auto)]
+
 mod kinds;
 mod sided;
 mod tables;
@@ -23,7 +25,7 @@ pub const LONGEST_SIDE: usize = 29;
 pub const SIDES: usize = (LONGEST_SIDE + 1) * (LONGEST_SIDE + 1);
 
 // The loop of a closing pair, by kind: a hairpin of that many bases, a stack, a bulge of that many, an internal loop with its two sides, a many-armed loop with that many inner pairs.
-#[derive(Drop)]
+#[derive(Clone, Copy)]
 pub enum Loop {
     Hairpin(usize),
     Stack,

@@ -2,3 +2,4 @@
 pub mod Ints
 pub mod Minima
 pub mod Tables
+pub mod Sums

@@ -1,5 +1,7 @@
 // Signed numbers: the leaves by which the energy crates read, store, add and compare their cells.
 // Each contract is an equation, so that callers need no law of the order; proofs/Ints.antt has the laws (`omega ints`).
+#![tactic(auto)]
+
 ghost use Rattle.std.specs.Prelude.{◌≡◌, ◌<◌, pos, nat_abs, ◌+ℤ◌, length, get_or, set};
 ghost use Rattle.ints.specs.Ints.{minℤ, add_e, Small};
 
@@ -14,6 +16,7 @@ pub fn least(a: i32, b: i32) -> i32
 }
 
 // The sum of two energies: none where either has none.
+#[tactic(auto, using(crate::proofs::Sums::plus_cases))]
 pub fn plus(a: i32, b: i32) -> i32
     requires { Small a × Small b }
     ensures { result ≡ add_e a b }
