@@ -1,4 +1,4 @@
-// Finds libyukemasop.a: where YUKEMASOP_LIB says, or where `rt staticlib yukemasop` writes it.
+// Finds libyukemasop.a: where YUKEMASOP_LIB says, or where `./archive` writes it.
 use std::path::PathBuf;
 
 fn main() {
@@ -15,7 +15,7 @@ fn main() {
     };
     let archive = folder.join("libyukemasop.a");
     if !archive.exists() {
-        fail("libyukemasop.a is missing: run `rt staticlib yukemasop` first, or set YUKEMASOP_LIB to its folder.");
+        fail("libyukemasop.a is missing: run `./archive` first, or set YUKEMASOP_LIB to its folder.");
     }
     println!("cargo:rerun-if-changed={}", archive.display());
     println!("cargo:rustc-link-search=native={}", folder.display());

@@ -58,13 +58,16 @@ flat_partner (MateRefused q) = flat_refusal q
 
 -- a fold: 0, no place, its record and its count; a refusal: its number and place, and 0 elsewhere
 abbrev pub flat_counted : Counted → YkmCounted
-flat_counted (Folded k m) = record { number = 0; place = flat_place Nowhere; kept = record { length = k.length; gap = k.gap }; count = m }
-flat_counted (CountedRefused q) = record { number = number q; place = flat_place (place q); kept = record { length = 0; gap = 0 }; count = 0 }
+flat_counted (Folded k m) =
+    record { number = 0; place = flat_place Nowhere; kept = record { length = k.length; gap = k.gap }; count = m }
+flat_counted (CountedRefused q) =
+    record { number = number q; place = flat_place (place q); kept = record { length = 0; gap = 0 }; count = 0 }
 
 -- an edit: the same, and a refusal gives the record back
 abbrev pub flat_edited : Edited → YkmCounted
 flat_edited (Done k m) = flat_counted (Folded k m)
-flat_edited (EditRefused q k) = record { number = number q; place = flat_place (place q); kept = record { length = k.length; gap = k.gap }; count = 0 }
+flat_edited (EditRefused q k) =
+    record { number = number q; place = flat_place (place q); kept = record { length = k.length; gap = k.gap }; count = 0 }
 
 -- a traceback: the number of pairs
 abbrev pub flat_traced : Traced → YkmAnswer

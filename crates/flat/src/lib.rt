@@ -1,4 +1,6 @@
 // Answers as structs of numbers, for C.
+#![tactic(auto)]
+
 ghost use Rattle.std.specs.Prelude.{◌≡◌};
 ghost use Rattle.flat.specs.Flat.{flat_place, flat_refusal, flat_answer, flat_pairing, flat_partner, flat_counted, flat_edited, flat_traced, flat_least};
 
@@ -10,7 +12,7 @@ use refusals::{Place, Refusal};
 use structure::Answer;
 
 #[repr(C)]
-#[derive(Drop)]
+#[derive(Clone, Copy)]
 pub struct YkmBase {
     pub number: u32,
     pub place: usize,
@@ -18,7 +20,7 @@ pub struct YkmBase {
 }
 
 #[repr(C)]
-#[derive(Drop)]
+#[derive(Clone, Copy)]
 pub struct YkmAnswer {
     pub number: u32,
     pub place: usize,
@@ -26,14 +28,14 @@ pub struct YkmAnswer {
 }
 
 #[repr(C)]
-#[derive(Drop)]
+#[derive(Clone, Copy)]
 pub struct YkmRecord {
     pub length: usize,
     pub gap: usize,
 }
 
 #[repr(C)]
-#[derive(Drop)]
+#[derive(Clone, Copy)]
 pub struct YkmCounted {
     pub number: u32,
     pub place: usize,
@@ -42,7 +44,7 @@ pub struct YkmCounted {
 }
 
 #[repr(C)]
-#[derive(Drop)]
+#[derive(Clone, Copy)]
 pub struct YkmLeast {
     pub number: u32,
     pub place: usize,

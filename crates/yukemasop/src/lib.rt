@@ -1,5 +1,8 @@
 // The C interface: the libraries' calls under plain names, their answers flattened into structs of numbers. No logic stands here.
-// include/yukemasop.h declares each call; a struct's first field is the refusal's number (0: accepted), its second the place (the largest usize: none).
+// include/yukemasop.h declares each call; a struct's first field is the refusal's number (0: accepted),
+// its second the place (the largest usize: none).
+#![tactic(auto)]
+
 ghost use Rattle.std.specs.Prelude.{◌≡◌};
 ghost use Rattle.bases.specs.Bases.{reads, can_pair, pair_index};
 ghost use Rattle.queries.specs.Calls.{Lists, Pairs, Partners, Counts};
@@ -137,7 +140,9 @@ pub extern "C" fn ykm_zuker_mfe(
     arms: &mut [i32],
     pairs: &mut [u16],
 ) -> YkmLeast
-    ensures { Flat flat_least (EnergyFolds seq.now bases.old bases.new paired.old any.old arms.old paired.new any.new arms.new pairs.old pairs.new) result }
+    ensures { Flat flat_least
+        (EnergyFolds seq.now bases.old bases.new paired.old any.old arms.old paired.new any.new arms.new pairs.old pairs.new)
+        result }
 {
     flat::flat_least(energy::zuker_mfe(seq, bases, paired, any, arms, pairs))
 }
