@@ -1,19 +1,44 @@
 // Lists of lines, each with the line feed that ends it, whose fields have single spaces between.
-ghost use Rattle.std.specs.Prelude.{◌≤◌, ◌<◌, length};
+#![tactic(auto)]
+
+ghost use Rattle.std.specs.Prelude.{◌≡◌, ◌≤◌, ◌<◌, length, take, IfOk, OnErr};
+ghost use Rattle.std.specs.Io.KnownBytes.{Consumes, IsAtEnd};
+
+use std::io;
+use std::io::Read;
 
 // A field's number, or that it is no decimal of 64 bits.
-#[derive(Drop)]
+#[derive(Clone, Copy)]
 pub enum Reading {
     Number(usize),
     Malformed,
 }
 
 // A field's thousandths from 0 up or below 0, or that it is no decimal of three decimals.
-#[derive(Drop)]
+#[derive(Clone, Copy)]
 pub enum Signed {
     Above(usize),
     Below(usize),
     Malformed,
+}
+
+// Reads until the room for the list is full or the input ends; how many bytes the list has. After a failed read the room is as long as it was,
+// and what it holds is undecided.
+pub fn read_full<R: Read>(input: &mut R, list: &mut [u8]) -> io::Result<usize>
+    ensures bound { IfOk result (λ n. n ≤ length list.new) }
+    ensures bytes { IfOk result (λ n. Consumes (R.remaining input.old) (R.remaining input.new) (take n list.new)) }
+    ensures end { IfOk result (λ n. n < length list.new → IsAtEnd (R.remaining input.new)) }
+    ensures err { OnErr result (length list.new ≡ length list.old) }
+{
+    let mut done = 0;
+    while done < list.len() {
+        let n = input.read(&mut list[done..])?;
+        if n == 0 {
+            return Ok(done);
+        }
+        done += n;
+    }
+    Ok(done)
 }
 
 // Where the line that starts at `from` ends: past its line feed, or where the list ends.

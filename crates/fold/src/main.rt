@@ -1,14 +1,18 @@
 // The program: folds the first line of standard input, or each word of the command line, and writes what it finds.
 // All that matters stands in the libraries: `counting` and `energy` fold and refuse, `lines` makes the text.
-ghost use Rattle.std.specs.Prelude.{◌≤◌, length};
+#![tactic(auto)]
+
+ghost use Rattle.std.specs.Prelude.{◌≡◌, ◌≤◌, length, IfOk, OnErr};
 ghost use Rattle.io.specs.Counts.{IsPrefixLen};
 ghost use Rattle.refusals.specs.Refusals.{program_limit};
 ghost use Rattle.ints.specs.Ints.{Small};
 
 use counting::Counted;
 use energy::Minimum;
-use libc::{STDIN_FILENO, STDOUT_FILENO};
 use refusals::{PROGRAM_LIMIT, Refusal};
+use std::env::{Env, FillError};
+use std::io;
+use std::io::Read;
 
 // The two places of a pair are more than this apart.
 const GAP: usize = 3;
@@ -19,49 +23,45 @@ const CELLS: usize = 3240;
 // One byte more than the program folds is enough to know that a sequence is too long.
 const INPUT: usize = PROGRAM_LIMIT + 1;
 
-fn write(text: &[u8]) {
-    io::write_all(STDOUT_FILENO, text);
-}
-
-fn refused(refusal: Refusal) {
+fn refused(rt: &impl Print, refusal: Refusal) -> io::Result<()> {
     let mut line = [0u8; lines::ROOM];
     let n = lines::refused(refusal, &mut line);
-    write(&line[..n]);
-    write(b"\n");
+    rt.write_all(&line[..n])?;
+    rt.write_all(b"\n")
 }
 
 // The rest of a line: a structure's brackets.
-fn brackets(pairs: &[u16])
+fn brackets(rt: &impl Print, pairs: &[u16]) -> io::Result<()>
     requires { length pairs.now ≤ program_limit }
 {
     let n = pairs.len();
     let mut text = [0u8; PROGRAM_LIMIT];
     brackets::to_dot_bracket(pairs, &mut text);
-    write(b" ");
-    write(&text[..n]);
-    write(b"\n");
+    rt.write_all(b" ")?;
+    rt.write_all(&text[..n])?;
+    rt.write_all(b"\n")
 }
 
-fn pairs_line(count: usize, pairs: &[u16])
+fn pairs_line(rt: &impl Print, count: usize, pairs: &[u16]) -> io::Result<()>
     requires { length pairs.now ≤ program_limit }
 {
     let mut line = [0u8; lines::ROOM];
     let n = lines::pairs(count, &mut line);
-    write(&line[..n]);
-    brackets(pairs);
+    rt.write_all(&line[..n])?;
+    brackets(rt, pairs)
 }
 
-fn energy_line(z: i32, pairs: &[u16])
+fn energy_line(rt: &impl Print, z: i32, pairs: &[u16]) -> io::Result<()>
     requires { Small z × (length pairs.now ≤ program_limit) }
 {
     let mut line = [0u8; lines::ROOM];
     let n = lines::energy(z, &mut line);
-    write(&line[..n]);
-    brackets(pairs);
+    rt.write_all(&line[..n])?;
+    brackets(rt, pairs)
 }
 
 // The normalised sequence and the most pairs, or the refusal; whether it was folded.
-fn fold_pairs(seq: &[u8]) -> bool
+fn fold_pairs(rt: &impl Print, seq: &[u8]) -> io::Result<bool>
     requires { length seq.now ≤ program_limit }
 {
     let n = seq.len();
@@ -71,20 +71,20 @@ fn fold_pairs(seq: &[u8]) -> bool
     let counted = counting::nussinov(seq, GAP, &mut bases, &mut cells, &mut pairs);
     match counted {
         Counted::Folded(_, count) => {
-            write(&bases[..n]);
-            write(b"\n");
-            pairs_line(count, &pairs[..n]);
-            true
+            rt.write_all(&bases[..n])?;
+            rt.write_all(b"\n")?;
+            pairs_line(rt, count, &pairs[..n])?;
+            Ok(true)
         }
         Counted::Refused(refusal) => {
-            refused(refusal);
-            false
+            refused(rt, refusal)?;
+            Ok(false)
         }
     }
 }
 
 // The least energy. What was folded for its pairs is never refused here.
-fn fold_energy(seq: &[u8])
+fn fold_energy(rt: &impl Print, seq: &[u8]) -> io::Result<()>
     requires { length seq.now ≤ program_limit }
 {
     let n = seq.len();
@@ -102,86 +102,86 @@ fn fold_energy(seq: &[u8])
         &mut pairs,
     );
     match minimum {
-        Minimum::Energy(z) => energy_line(z, &pairs[..n]),
-        Minimum::Refused(refusal) => refused(refusal),
+        Minimum::Energy(z) => energy_line(rt, z, &pairs[..n]),
+        Minimum::Refused(refusal) => refused(rt, refusal),
     }
 }
 
-fn fold(seq: &[u8]) {
+fn fold(rt: &impl Print, seq: &[u8]) -> io::Result<()> {
     if PROGRAM_LIMIT < seq.len() {
-        refused(Refusal::TooLong);
-        return;
+        return refused(rt, Refusal::TooLong);
     }
-    if fold_pairs(seq) {
-        fold_energy(seq);
+    if fold_pairs(rt, seq)? {
+        fold_energy(rt, seq)?;
     }
+    Ok(())
 }
 
 // The next byte of the first line of standard input, read by itself, so that nothing after the line is waited for.
-#[derive(Drop)]
+#[derive(Clone, Copy)]
 enum Next {
     Byte(u8),
     End,
 }
 
-fn next_byte() -> Next {
+fn next_byte(input: &mut impl Read) -> io::Result<Next> {
     let mut byte = [0u8; 1];
-    if io::read_full(STDIN_FILENO, &mut byte) == 0 {
-        return Next::End;
+    if input.read(&mut byte)? == 0 {
+        return Ok(Next::End);
     }
     if byte[0] == b'\n' {
-        return Next::End;
+        return Ok(Next::End);
     }
-    Next::Byte(byte[0])
+    Ok(Next::Byte(byte[0]))
 }
 
-// The line, as far as there is room; how many bytes it has.
-fn read_line(line: &mut [u8]) -> usize
-    ensures { IsPrefixLen result line.new }
+// The line, as far as there is room; how many bytes it has. After a failed read the room is as long as it was, and what it holds is undecided.
+fn read_line(input: &mut impl Read, line: &mut [u8]) -> io::Result<usize>
+    ensures ok { IfOk result (λ n. IsPrefixLen n line.new) }
+    ensures err { OnErr result (length line.new ≡ length line.old) }
 {
     let mut n = 0;
     while n < line.len() {
-        let next = next_byte();
+        let next = next_byte(input)?;
         let Next::Byte(byte) = next else {
-            return n;
+            return Ok(n);
         };
         line[n] = byte;
         n += 1;
     }
-    n
+    Ok(n)
 }
 
-fn fold_input() {
+fn fold_input(rt: &(impl Input + Print)) -> io::Result<()> {
     let mut line = [0u8; INPUT];
-    let n = read_line(&mut line);
-    fold(&line[..n]);
+    let n = read_line(&mut rt.reader(), &mut line)?;
+    fold(rt, &line[..n])
 }
 
-// One word of the command line; one that is longer than the room is too long to fold.
-fn fold_word(i: usize) {
+// One word of the command line, and whether there is one; one that is longer than the room is too long to fold.
+fn fold_word(rt: &(impl Env + Print), i: usize) -> io::Result<bool> {
     let mut word = [0u8; INPUT];
-    let n = os::arg(i, &mut word);
-    if os::errno() == libc::ENAMETOOLONG {
-        refused(Refusal::TooLong);
-        return;
+    match rt.arg(i, &mut word) {
+        Ok(n) => fold(rt, &word[..n])?,
+        Err(FillError::TooLong) => refused(rt, Refusal::TooLong)?,
+        Err(FillError::NotPresent) => return Ok(false),
     }
-    fold(&word[..n]);
+    Ok(true)
 }
 
-fn fold_words(count: usize) {
-    let mut i = 1;
-    while i < count {
-        fold_word(i);
-        i += 1;
+// Every word of the command line, and whether there is any. The program's own name is the first of its words.
+fn fold_words(rt: &(impl Env + Print)) -> io::Result<bool> {
+    for i in 1..usize::MAX {
+        if !fold_word(rt, i)? {
+            return Ok(1 < i);
+        }
     }
+    Ok(true)
 }
 
-// The program's own name is the first of its words.
-fn main() {
-    let count = os::arg_count();
-    if count < 2 {
-        fold_input();
-        return;
+fn main(rt: HostRuntime) -> io::Result<()> {
+    if fold_words(&rt)? {
+        return Ok(());
     }
-    fold_words(count);
+    fold_input(&rt)
 }

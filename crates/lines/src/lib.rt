@@ -1,5 +1,7 @@
 // The text of answers: a count, an energy, a refusal, each as the bytes of a line before its brackets or its end.
 // specs/Text.antt has each text as a list of bytes, and every contract is an equation with it.
+#![tactic(auto)]
+
 ghost use Rattle.std.specs.Prelude.{◌≡◌, ◌∷◌, ◌+◌, ◌%◌, ◌≤◌, length};
 ghost use Rattle.io.specs.Counts.{IsPrefixLen};
 ghost use Rattle.io.specs.Digits.{last_digits, hex_digit_ascii};
@@ -54,6 +56,7 @@ fn decimals(n: usize, out: &mut [u8], at: usize) -> usize
     put(&text, out, at)
 }
 
+#[tactic(auto, using(crate::proofs::Texts::sign_below, crate::proofs::Texts::sign_above, crate::proofs::Putting::none_put))]
 fn sign(z: i32, out: &mut [u8], at: usize) -> usize
     requires { at + 1 ≤ length out.old }
     ensures { Puts out.old out.new at (sign_of z) result }

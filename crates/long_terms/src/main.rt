@@ -1,11 +1,13 @@
 // The table of long loops, made again: the term of every size, in whole numbers, against what `figures` adds for it.
 // 1000 × 1.75 × 0.001987 × 310.15 × ln(size / 30), where ln(size / 30) is the sum of ln((k + 1) / k) for k from 30 to before the size.
+#![tactic(auto)]
+
 ghost use Rattle.std.specs.Prelude.{◌+◌, ◌≤◌, ◌<◌};
 ghost use Rattle.refusals.specs.Refusals.{fold_limit};
 
 use figures::Loop;
-use libc::STDOUT_FILENO;
 use refusals::FOLD_LIMIT;
+use std::io;
 
 // A logarithm of 1, as it is kept here.
 const UNIT: usize = 1_000_000_000_000;
@@ -63,11 +65,8 @@ fn hairpin(size: usize) -> usize
     ints::magnitude(energy)
 }
 
-fn tell(size: usize, term: usize) {
-    io::write_all(STDOUT_FILENO, b"size ");
-    io::print_decimal(STDOUT_FILENO, size as u64);
-    io::write_all(STDOUT_FILENO, b" adds ");
-    io::print_decimal(STDOUT_FILENO, term as u64);
+fn tell(rt: &impl Print, size: usize, term: usize) -> io::Result<()> {
+    print!(rt; "size {size} adds {term}")
 }
 
 // The sizes whose terms the rules name.
@@ -81,27 +80,27 @@ fn named(size: usize) -> bool {
 }
 
 // Whether the table adds, for a size whose logarithm is so many units, what is made here; what it finds is written out.
-fn agrees(size: usize, ln: usize) -> bool
+fn agrees(rt: &impl Print, size: usize, ln: usize) -> io::Result<bool>
     requires { (30 ≤ size) × (size + 2 ≤ fold_limit) × (ln ≤ 12800000000000) }
 {
     let term = scaled(ln);
     let made = rounded(term);
     let same = hairpin(TABLED) + made == hairpin(size);
     if near_a_half(term) {
-        tell(size, made);
-        io::write_all(STDOUT_FILENO, b", too near a half to tell\n");
-        return false;
+        tell(rt, size, made)?;
+        println!(rt; ", too near a half to tell")?;
+        return Ok(false);
     }
     if !same {
-        tell(size, made);
-        io::write_all(STDOUT_FILENO, b", and the table says otherwise\n");
-        return false;
+        tell(rt, size, made)?;
+        println!(rt; ", and the table says otherwise")?;
+        return Ok(false);
     }
     if named(size) {
-        tell(size, made);
-        io::write_all(STDOUT_FILENO, b"\n");
+        tell(rt, size, made)?;
+        println!(rt;)?;
     }
-    true
+    Ok(true)
 }
 
 fn counted(yes: bool) -> usize
@@ -111,22 +110,20 @@ fn counted(yes: bool) -> usize
 }
 
 // How many terms agree, of all sizes that a fold may have.
-fn agreeing() -> usize {
+fn agreeing(rt: &impl Print) -> io::Result<usize> {
     let mut ln: usize = 0;
     let mut count: usize = 0;
     let mut size = TABLED + 1;
     while size + 2 <= FOLD_LIMIT {
         ln += step(size - 1);
-        count += counted(agrees(size, ln));
+        count += counted(agrees(rt, size, ln)?);
         size += 1;
     }
-    count
+    Ok(count)
 }
 
-fn main() {
-    let count = agreeing();
-    io::print_decimal(STDOUT_FILENO, count as u64);
-    io::write_all(STDOUT_FILENO, b" of ");
-    io::print_decimal(STDOUT_FILENO, (FOLD_LIMIT - 2 - TABLED) as u64);
-    io::write_all(STDOUT_FILENO, b" terms agree\n");
+fn main(rt: HostRuntime) -> io::Result<()> {
+    let count = agreeing(&rt)?;
+    let all = FOLD_LIMIT - 2 - TABLED;
+    println!(rt; "{count} of {all} terms agree")
 }

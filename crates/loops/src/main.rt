@@ -1,64 +1,44 @@
 // What structures cost. A line of standard input is a strand and its brackets; for each, every loop is written with its opening place, kind and charge, and then the energy.
+#![tactic(auto)]
+
 ghost use Rattle.std.specs.Prelude.{◌≡◌, true, ◌<◌, length};
 ghost use Rattle.structure.specs.Table.{view};
 ghost use Rattle.ints.specs.Ints.{Small};
 ghost use Rattle.charges.specs.Loops.{opening, Chargeable};
 
 use figures::Loop;
-use libc::{STDIN_FILENO, STDOUT_FILENO};
 use refusals::FOLD_LIMIT;
+use std::io;
 use structure::Answer;
 
-fn write(text: &[u8]) {
-    io::write_all(STDOUT_FILENO, text);
-}
-
-fn number(n: usize) {
-    io::print_decimal(STDOUT_FILENO, n as u64);
-}
-
-fn energy(z: i32)
+fn energy(rt: &impl Print, z: i32) -> io::Result<()>
     requires { Small z }
 {
     if z < 0 {
-        write(b"-");
+        print!(rt; "-")?;
     }
-    io::print_decimal(STDOUT_FILENO, ints::magnitude(z) as u64);
+    rt.print(ints::magnitude(z))
 }
 
-fn kind(kind: Loop) {
+fn kind(rt: &impl Print, kind: Loop) -> io::Result<()> {
     match kind {
-        Loop::Hairpin(size) => {
-            write(b" hairpin ");
-            number(size);
-        }
-        Loop::Stack => write(b" stack"),
-        Loop::Bulge(size) => {
-            write(b" bulge ");
-            number(size);
-        }
-        Loop::Internal(left, right) => {
-            write(b" internal ");
-            number(left);
-            write(b" ");
-            number(right);
-        }
-        Loop::Many(arms) => {
-            write(b" many ");
-            number(arms);
-        }
+        Loop::Hairpin(size) => print!(rt; " hairpin {size}"),
+        Loop::Stack => print!(rt; " stack"),
+        Loop::Bulge(size) => print!(rt; " bulge {size}"),
+        Loop::Internal(left, right) => print!(rt; " internal {left} {right}"),
+        Loop::Many(arms) => print!(rt; " many {arms}"),
     }
 }
 
 // The loop that opens at i.
-fn entry(bases: &[u8], pairs: &[u16], i: usize)
+fn entry(rt: &impl Print, bases: &[u8], pairs: &[u16], i: usize) -> io::Result<()>
     requires { Chargeable bases.now pairs.now × (i < length pairs.now) × (opening i (view pairs.now i) ≡ true) }
 {
-    number(i);
-    kind(charges::kind_at(bases, pairs, i));
-    write(b" ");
-    energy(charges::charge_at(bases, pairs, i));
-    write(b", ");
+    rt.print(i)?;
+    kind(rt, charges::kind_at(bases, pairs, i))?;
+    print!(rt; " ")?;
+    energy(rt, charges::charge_at(bases, pairs, i))?;
+    print!(rt; ", ")
 }
 
 // Whether the entry v of position k opens a pair.
@@ -69,84 +49,80 @@ fn opens(k: usize, v: u16) -> bool
 }
 
 // Position i, where it opens a pair.
-fn position(bases: &[u8], pairs: &[u16], i: usize)
+fn position(rt: &impl Print, bases: &[u8], pairs: &[u16], i: usize) -> io::Result<()>
     requires { Chargeable bases.now pairs.now × (i < length pairs.now) }
 {
     if opens(i, pairs[i]) {
-        entry(bases, pairs, i);
+        entry(rt, bases, pairs, i)?;
     }
+    Ok(())
 }
 
-fn account(bases: &[u8], pairs: &[u16])
+fn account(rt: &impl Print, bases: &[u8], pairs: &[u16]) -> io::Result<()>
     requires { Chargeable bases.now pairs.now }
 {
     let mut i = 0;
     while i < pairs.len() {
-        position(bases, pairs, i);
+        position(rt, bases, pairs, i)?;
         i += 1;
     }
-    energy(charges::energy_of(bases, pairs));
+    energy(rt, charges::energy_of(bases, pairs))
 }
 
 // What may be charged is; what may not be says why.
-fn weigh(bases: &[u8], pairs: &[u16]) {
+fn weigh(rt: &impl Print, bases: &[u8], pairs: &[u16]) -> io::Result<()> {
     if FOLD_LIMIT < pairs.len() {
-        write(b"too long");
-        return;
+        return print!(rt; "too long");
     }
     if bases.len() != pairs.len() {
-        write(b"unequal");
-        return;
+        return print!(rt; "unequal");
     }
     let counted = queries::num_pairs(pairs);
     let Answer::Number(_) = counted else {
-        write(b"unsound");
-        return;
+        return print!(rt; "unsound");
     };
     let barred = charges::first_barred(bases, pairs);
     if barred < pairs.len() {
-        write(b"barred ");
-        number(barred);
-        return;
+        return print!(rt; "barred {barred}");
     }
-    account(bases, pairs);
+    account(rt, bases, pairs)
 }
 
-fn strand(bases: &[u8], text: &[u8]) {
+fn strand(rt: &impl Print, bases: &[u8], text: &[u8]) -> io::Result<()> {
     let mut pairs = [0u16; FOLD_LIMIT];
     let parsed = brackets::from_dot_bracket(text, &mut pairs);
     let Answer::Number(n) = parsed else {
-        write(b"no structure");
-        return;
+        return print!(rt; "no structure");
     };
     // Never so after a parse: a test is shorter than the proof of that.
     if FOLD_LIMIT < n {
-        return;
+        return Ok(());
     }
-    weigh(bases, &pairs[..n]);
+    weigh(rt, bases, &pairs[..n])
 }
 
-fn line(text: &[u8]) {
+fn line(rt: &impl Print, text: &[u8]) -> io::Result<()> {
     if fields::has_fields(text, 2) {
-        strand(fields::field(text, 0), fields::field(text, 1));
+        strand(rt, fields::field(text, 0), fields::field(text, 1))?;
     } else {
-        write(b"malformed");
+        print!(rt; "malformed")?;
     }
-    write(b"\n");
+    println!(rt;)
 }
 
-fn lines(list: &[u8]) {
+fn lines(rt: &impl Print, list: &[u8]) -> io::Result<()> {
     let mut at = 0;
     while at < list.len() {
         let end = fields::end_of_line(list, at);
-        line(&list[at..end]);
+        line(rt, &list[at..end])?;
         at = end;
     }
+    Ok(())
 }
 
 // What is past the room isn't read.
-fn main() {
+fn main(rt: HostRuntime) -> io::Result<()> {
     let mut list = [0u8; 65536];
-    let n = io::read_full(STDIN_FILENO, &mut list);
-    lines(&list[..n]);
+    let n = fields::read_full(&mut rt.reader(), &mut list)?;
+    lines(&rt, &list[..n])
 }

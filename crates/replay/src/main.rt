@@ -1,10 +1,14 @@
 // Replays the fixed list of the original's answers: each line's strand is folded both ways, and what comes is compared with the line.
 // The list is data/answers.txt, which tests/oracle/make-answers makes.
+#![tactic(auto)]
+
 use counting::Counted;
 use energy::Minimum;
 use fields::{Reading, Signed};
 use refusals::FOLD_LIMIT;
 use report::Tally;
+use std::fs::File;
+use std::io;
 use structure::Answer;
 
 mod report;
@@ -141,14 +145,14 @@ fn replay(
 }
 
 // Lends room for the longest fold there is.
-fn run(list: &[u8]) {
+fn run(rt: &impl Print, list: &[u8]) -> io::Result<()> {
     let mut bases = [0u8; FOLD_LIMIT];
     let mut cells = [0u16; FOLD_LIMIT * (FOLD_LIMIT + 1) / 2];
     let mut paired = [0; FOLD_LIMIT * (FOLD_LIMIT + 1) / 2];
     let mut any = [0; FOLD_LIMIT * (FOLD_LIMIT + 1) / 2];
     let mut arms = [0; FOLD_LIMIT * (FOLD_LIMIT + 1) / 2];
     let mut pairs = [0u16; FOLD_LIMIT];
-    report::write(replay(
+    let tally = replay(
         list,
         &mut bases,
         &mut cells,
@@ -156,18 +160,14 @@ fn run(list: &[u8]) {
         &mut any,
         &mut arms,
         &mut pairs,
-    ));
+    );
+    report::write(rt, tally)
 }
 
 // The list is shorter than the room for it. What is past the room isn't read, and a line that is cut there differs.
-fn main() {
-    let fd = os::open_read(b"answers.txt");
-    if fd < 0 {
-        os::fail(b"answers.txt");
-        return;
-    }
+fn main(rt: HostRuntime) -> io::Result<()> {
+    let mut file = File::open(&rt, "answers.txt")?;
     let mut list = [0u8; 400000];
-    let n = io::read_full(fd, &mut list);
-    libc::close(fd);
-    run(&list[..n]);
+    let n = fields::read_full(&mut file, &mut list)?;
+    run(&rt, &list[..n])
 }

@@ -1,10 +1,10 @@
 // What the lines come to, counted and written out.
 ghost use Rattle.std.specs.Prelude.{◌≡◌, ◌+◌, ◌≤◌, ◌<◌};
 
-use libc::STDOUT_FILENO;
+use std::io;
 
 // The lines so far, those whose pair-count fold agrees, those whose energy fold does, and the first that differs in either, counted from 1; 0 while none does.
-#[derive(Drop)]
+#[derive(Clone, Copy)]
 pub struct Tally {
     pub lines: usize,
     pub counts: usize,
@@ -34,7 +34,7 @@ impl Tally {
             lines,
             counts: self.counts + one_if(count),
             energies: self.energies + one_if(energy),
-            first: first_passing(self.first, lines, count && energy),
+            first: first_of(self.first, lines, count && energy),
         }
     }
 }
@@ -46,7 +46,7 @@ fn one_if(agrees: bool) -> usize
 }
 
 // The first line that differs, after one line more.
-fn first_passing(first: usize, line: usize, agrees: bool) -> usize {
+fn first_of(first: usize, line: usize, agrees: bool) -> usize {
     if agrees {
         return first;
     }
@@ -54,16 +54,12 @@ fn first_passing(first: usize, line: usize, agrees: bool) -> usize {
 }
 
 // The last line is there only where a line differs.
-pub fn write(tally: Tally) {
-    io::print_decimal(STDOUT_FILENO, tally.lines as u64);
-    io::write_all(STDOUT_FILENO, b" lines\n");
-    io::print_decimal(STDOUT_FILENO, tally.counts as u64);
-    io::write_all(STDOUT_FILENO, b" counts and structures agree\n");
-    io::print_decimal(STDOUT_FILENO, tally.energies as u64);
-    io::write_all(STDOUT_FILENO, b" energies agree\n");
+pub fn write(rt: &impl Print, tally: Tally) -> io::Result<()> {
+    println!(rt; "{} lines", tally.lines)?;
+    println!(rt; "{} counts and structures agree", tally.counts)?;
+    println!(rt; "{} energies agree", tally.energies)?;
     if 0 < tally.first {
-        io::write_all(STDOUT_FILENO, b"line ");
-        io::print_decimal(STDOUT_FILENO, tally.first as u64);
-        io::write_all(STDOUT_FILENO, b" differs\n");
+        println!(rt; "line {} differs", tally.first)?;
     }
+    Ok(())
 }

@@ -47,13 +47,13 @@ nested = unpaired ∷ 7 ∷ 6 ∷ unpaired ∷ unpaired ∷ unpaired ∷ 2 ∷ 1
 pub bench_sheet : Every Says table
 unfolding text_due unmatched eight nested reads no_base normal bases_due can_pair may_pair span best paired split nussinov tri every first_passing closes_of split_at split_of choice trace_of traced_of count_of glyphs brackets
 bench_sheet = (
-  accepted _ (λ room h. rw (le-ltb room 0 h)),
+  accepted [] (λ room h. rw (le-ltb room 0 h)),
   (
-    denied _ _ _ (λ room. refl),
+    denied (41 ∷ 40 ∷ []) _ _ (λ room. refl),
     (
-      denied _ _ _ (λ room. refl),
+      denied (40 ∷ 46 ∷ 120 ∷ []) _ _ (λ room. refl),
       (
-        denied _ _ _ (λ room. refl),
+        denied (46 ∷ 40 ∷ 40 ∷ 41 ∷ []) _ _ (λ room. refl),
         (
           counted _ (0 ∷ []) (unpaired ∷ []) _ _ _ (lit< tt) (lit≤ tt) refl refl tt refl refl refl refl,
           (

@@ -1,4 +1,5 @@
--- The lines of the bench sheet that are proved: one table, of everything that a public call's contract permits. Assumes nothing: these are definitions.
+-- The lines of the bench sheet that are proved: one table, of everything that a public call's contract permits.
+-- Assumes nothing: these are definitions.
 use Rattle.std.specs.Prelude.{◌≡◌, List, [], ◌∷◌, ℕ, ◌≤◌, ℤ, pos, neg_ℤ, length, take}
 use Rattle.refusals.specs.Refusals.{number, place}
 use Rattle.refusals.specs.declared.Refusal.{Refusal}
@@ -28,9 +29,11 @@ pub data Line : Type 0 where
 -- what a line says of every answer that the contract permits, whatever memory with room is lent
 abbrev pub Says : Line → Type 0
 Says (text_accepted s) = (o o' : List ℕ) (a : Answer) → length s ≤ length o → Parses s o o' a → a ≡ Number (length s)
-Says (text_refused s num k) = (o o' : List ℕ) (a : Answer) → Parses s o o' a → (q : Refusal) × (a ≡ Refused q) × (number q ≡ num) × (place q ≡ At k)
+Says (text_refused s num k) =
+    (o o' : List ℕ) (a : Answer) → Parses s o o' a → (q : Refusal) × (a ≡ Refused q) × (number q ≡ num) × (place q ≡ At k)
 Says (count s gap m text) =
-    (b b' t t' o o' : List ℕ) (a : Counted) → length s ≤ length b → tri (length s) ≤ length t → length s ≤ length o → Folds s gap b b' t t' o o' a →
+    (b b' t t' o o' : List ℕ) (a : Counted) →
+    length s ≤ length b → tri (length s) ≤ length t → length s ≤ length o → Folds s gap b b' t t' o o' a →
     (a ≡ Folded (record_of (length s) gap) m) × (brackets (take (length s) o') ≡ text)
 Says (energy s z text) =
     (b b' : List ℕ) (v w m v' w' m' : List ℤ) (o o' : List ℕ) (a : Minimum) →
@@ -54,11 +57,14 @@ table =
     -- energies: `GGAAACC`, `GGGAAACCC`, `GGGAAAACCC`, with `.......`, `(((...)))`, `(((....)))`
     ∷ energy (71 ∷ 71 ∷ 65 ∷ 65 ∷ 65 ∷ 67 ∷ 67 ∷ []) (pos 0) (46 ∷ 46 ∷ 46 ∷ 46 ∷ 46 ∷ 46 ∷ 46 ∷ [])
     ∷ energy (71 ∷ 71 ∷ 71 ∷ 65 ∷ 65 ∷ 65 ∷ 67 ∷ 67 ∷ 67 ∷ []) (neg_ℤ (pos 1200)) (40 ∷ 40 ∷ 40 ∷ 46 ∷ 46 ∷ 46 ∷ 41 ∷ 41 ∷ 41 ∷ [])
-    ∷ energy (71 ∷ 71 ∷ 71 ∷ 65 ∷ 65 ∷ 65 ∷ 65 ∷ 67 ∷ 67 ∷ 67 ∷ []) (neg_ℤ (pos 1800)) (40 ∷ 40 ∷ 40 ∷ 46 ∷ 46 ∷ 46 ∷ 46 ∷ 41 ∷ 41 ∷ 41 ∷ [])
+    ∷ energy (71 ∷ 71 ∷ 71 ∷ 65 ∷ 65 ∷ 65 ∷ 65 ∷ 67 ∷ 67 ∷ 67 ∷ []) (neg_ℤ (pos 1800))
+    (40 ∷ 40 ∷ 40 ∷ 46 ∷ 46 ∷ 46 ∷ 46 ∷ 41 ∷ 41 ∷ 41 ∷ [])
     -- `GGGAAAAAAGGGAAACCCCCC` with `(((......(((...))))))`: what it is charged, and that nothing is charged less
     ∷ charged (71 ∷ 71 ∷ 71 ∷ 65 ∷ 65 ∷ 65 ∷ 65 ∷ 65 ∷ 65 ∷ 71 ∷ 71 ∷ 71 ∷ 65 ∷ 65 ∷ 65 ∷ 67 ∷ 67 ∷ 67 ∷ 67 ∷ 67 ∷ 67 ∷ [])
-    (20 ∷ 19 ∷ 18 ∷ unpaired ∷ unpaired ∷ unpaired ∷ unpaired ∷ unpaired ∷ unpaired ∷ 17 ∷ 16 ∷ 15 ∷ unpaired ∷ unpaired ∷ unpaired ∷ 11 ∷ 10 ∷ 9 ∷ 2 ∷ 1 ∷ 0 ∷ [])
+    (20 ∷ 19 ∷ 18 ∷ unpaired ∷ unpaired ∷ unpaired ∷ unpaired ∷ unpaired ∷ unpaired
+    ∷ 17 ∷ 16 ∷ 15 ∷ unpaired ∷ unpaired ∷ unpaired ∷ 11 ∷ 10 ∷ 9 ∷ 2 ∷ 1 ∷ 0 ∷ [])
     (40 ∷ 40 ∷ 40 ∷ 46 ∷ 46 ∷ 46 ∷ 46 ∷ 46 ∷ 46 ∷ 40 ∷ 40 ∷ 40 ∷ 46 ∷ 46 ∷ 46 ∷ 41 ∷ 41 ∷ 41 ∷ 41 ∷ 41 ∷ 41 ∷ []) (neg_ℤ (pos 3600))
-    ∷ energy (71 ∷ 71 ∷ 71 ∷ 65 ∷ 65 ∷ 65 ∷ 65 ∷ 65 ∷ 65 ∷ 71 ∷ 71 ∷ 71 ∷ 65 ∷ 65 ∷ 65 ∷ 67 ∷ 67 ∷ 67 ∷ 67 ∷ 67 ∷ 67 ∷ []) (neg_ℤ (pos 3600))
+    ∷ energy (71 ∷ 71 ∷ 71 ∷ 65 ∷ 65 ∷ 65 ∷ 65 ∷ 65 ∷ 65 ∷ 71 ∷ 71 ∷ 71 ∷ 65 ∷ 65 ∷ 65 ∷ 67 ∷ 67 ∷ 67 ∷ 67 ∷ 67 ∷ 67 ∷ [])
+    (neg_ℤ (pos 3600))
     (40 ∷ 40 ∷ 40 ∷ 46 ∷ 46 ∷ 46 ∷ 46 ∷ 46 ∷ 46 ∷ 40 ∷ 40 ∷ 40 ∷ 46 ∷ 46 ∷ 46 ∷ 41 ∷ 41 ∷ 41 ∷ 41 ∷ 41 ∷ 41 ∷ [])
     ∷ []

@@ -1,283 +1,307 @@
 // The bench sheet: its lines run through the public calls, and what each comes to written out.
 // The lines that are marked as proved are also the table of specs/Lines.antt, proved in proofs/Table.antt.
+#![tactic(auto)]
+
 ghost use Rattle.ints.specs.Ints.{Small};
 
 use count_edits::Edited;
 use counting::{Counted, Record};
 use energy::Minimum;
-use libc::STDOUT_FILENO;
 use refusals::{Place, Refusal};
+use std::io;
 use structure::Answer;
 
-fn is(n: usize) {
-    io::write_all(STDOUT_FILENO, b" is ");
-    io::print_decimal(STDOUT_FILENO, n as u64);
+fn is(rt: &impl Print, n: usize) -> io::Result<()> {
+    print!(rt; " is {n}")
 }
 
-fn refused(refusal: Refusal) {
-    io::write_all(STDOUT_FILENO, b" refused ");
-    io::print_decimal(STDOUT_FILENO, refusals::number_of(refusal) as u64);
+fn refused(rt: &impl Print, refusal: Refusal) -> io::Result<()> {
+    let number = refusals::number_of(refusal);
+    print!(rt; " refused {number}")?;
     let place = refusals::place_of(refusal);
     if let Place::At(k) = place {
-        io::write_all(STDOUT_FILENO, b" at ");
-        io::print_decimal(STDOUT_FILENO, k as u64);
+        print!(rt; " at {k}")?;
     }
+    Ok(())
 }
 
-fn tell(answer: Answer) {
+fn tell(rt: &impl Print, answer: Answer) -> io::Result<()> {
     match answer {
-        Answer::Number(n) => is(n),
-        Answer::Refused(refusal) => refused(refusal),
+        Answer::Number(n) => is(rt, n)?,
+        Answer::Refused(refusal) => refused(rt, refusal)?,
     }
-    io::write_all(STDOUT_FILENO, b"\n");
+    println!(rt;)
 }
 
-fn tell_count(counted: Counted) {
+fn tell_count(rt: &impl Print, counted: Counted) -> io::Result<()> {
     match counted {
-        Counted::Folded(_, m) => is(m),
-        Counted::Refused(refusal) => refused(refusal),
+        Counted::Folded(_, m) => is(rt, m),
+        Counted::Refused(refusal) => refused(rt, refusal),
     }
 }
 
-fn tell_edit(edited: Edited) {
+fn tell_edit(rt: &impl Print, edited: Edited) -> io::Result<()> {
     match edited {
-        Edited::Done(_, m) => is(m),
-        Edited::Refused(refusal, _) => refused(refusal),
+        Edited::Done(_, m) => is(rt, m),
+        Edited::Refused(refusal, _) => refused(rt, refusal),
     }
 }
 
 // In thousandths, with its sign.
-fn signed(z: i32)
+fn signed(rt: &impl Print, z: i32) -> io::Result<()>
     requires { Small z }
 {
     if z < 0 {
-        io::write_all(STDOUT_FILENO, b"-");
+        print!(rt; "-")?;
     }
-    io::print_decimal(STDOUT_FILENO, ints::magnitude(z) as u64);
+    rt.print(ints::magnitude(z))
 }
 
-fn is_energy(z: i32) {
-    io::write_all(STDOUT_FILENO, b" is ");
+fn is_energy(rt: &impl Print, z: i32) -> io::Result<()> {
+    print!(rt; " is ")?;
     // Never so after a fold: a test is shorter than the proof of that.
     if z < -1_000_000_000 {
-        return;
+        return Ok(());
     }
     if 1_000_000_000 < z {
-        return;
+        return Ok(());
     }
-    signed(z);
+    signed(rt, z)
 }
 
-fn tell_energy(found: Minimum) {
+fn tell_energy(rt: &impl Print, found: Minimum) -> io::Result<()> {
     match found {
-        Minimum::Energy(z) => is_energy(z),
-        Minimum::Refused(refusal) => refused(refusal),
+        Minimum::Energy(z) => is_energy(rt, z),
+        Minimum::Refused(refusal) => refused(rt, refusal),
     }
 }
 
-fn text(s: &[u8], pairs: &mut [u16]) {
-    io::write_all(STDOUT_FILENO, b"text ");
-    io::write_all(STDOUT_FILENO, s);
-    tell(brackets::from_dot_bracket(s, pairs));
+fn text(rt: &impl Print, s: &[u8], pairs: &mut [u16]) -> io::Result<()> {
+    print!(rt; "text ")?;
+    rt.write_all(s)?;
+    tell(rt, brackets::from_dot_bracket(s, pairs))
 }
 
-fn texts() {
+fn texts(rt: &impl Print) -> io::Result<()> {
     let mut pairs = [0u16; 4];
-    text(b"", &mut pairs);
-    text(b")(", &mut pairs);
-    text(b"(.x", &mut pairs);
-    text(b".(()", &mut pairs);
+    text(rt, b"", &mut pairs)?;
+    text(rt, b")(", &mut pairs)?;
+    text(rt, b"(.x", &mut pairs)?;
+    text(rt, b".(()", &mut pairs)
 }
 
-fn distances() {
+fn distances(rt: &impl Print) -> io::Result<()> {
     let mut a = [0u16; 9];
     let mut b = [0u16; 9];
-    text(b"(((...)))", &mut a);
-    text(b"((...))..", &mut b);
-    io::write_all(STDOUT_FILENO, b"base pair distance");
-    tell(distances::base_pair_distance(&a, &b));
-    io::write_all(STDOUT_FILENO, b"mountain distance");
-    tell(distances::mountain_distance(&a, &b));
+    text(rt, b"(((...)))", &mut a)?;
+    text(rt, b"((...))..", &mut b)?;
+    print!(rt; "base pair distance")?;
+    tell(rt, distances::base_pair_distance(&a, &b))?;
+    print!(rt; "mountain distance")?;
+    tell(rt, distances::mountain_distance(&a, &b))
 }
 
 // The brackets of the first n positions.
-fn brackets(pairs: &[u16], n: usize) {
+fn brackets(rt: &impl Print, pairs: &[u16], n: usize) -> io::Result<()> {
     let mut text = [0u8; 32];
     if pairs.len() < n {
-        return;
+        return Ok(());
     }
     if 32 < n {
-        return;
+        return Ok(());
     }
     brackets::to_dot_bracket(&pairs[..n], &mut text);
-    io::write_all(STDOUT_FILENO, b" ");
-    io::write_all(STDOUT_FILENO, &text[..n]);
+    print!(rt; " ")?;
+    rt.write_all(&text[..n])
 }
 
-fn count(seq: &[u8], gap: usize) {
+fn count(rt: &impl Print, seq: &[u8], gap: usize) -> io::Result<()> {
     let mut bases = [0u8; 16];
     let mut cells = [0u16; 136];
     let mut pairs = [0u16; 16];
-    io::write_all(STDOUT_FILENO, b"count ");
-    io::write_all(STDOUT_FILENO, seq);
-    io::write_all(STDOUT_FILENO, b" gap ");
-    io::print_decimal(STDOUT_FILENO, gap as u64);
-    tell_count(counting::nussinov(seq, gap, &mut bases, &mut cells, &mut pairs));
-    brackets(&pairs, seq.len());
-    io::write_all(STDOUT_FILENO, b"\n");
+    print!(rt; "count ")?;
+    rt.write_all(seq)?;
+    print!(rt; " gap {gap}")?;
+    tell_count(
+        rt,
+        counting::nussinov(seq, gap, &mut bases, &mut cells, &mut pairs),
+    )?;
+    brackets(rt, &pairs, seq.len())?;
+    println!(rt;)
 }
 
-fn strands() {
-    count(b"A", 3);
-    count(b"GC", 0);
-    count(b"GC", 1);
-    count(b"GGGGCCCC", 3);
-    count(b"GGGAAACCC", 3);
-    count(b"aaaauuu", 0);
-    count(b"GGUUAAUU", 0);
-    count(b"gcGCtAta", 0);
+fn strands(rt: &impl Print) -> io::Result<()> {
+    count(rt, b"A", 3)?;
+    count(rt, b"GC", 0)?;
+    count(rt, b"GC", 1)?;
+    count(rt, b"GGGGCCCC", 3)?;
+    count(rt, b"GGGAAACCC", 3)?;
+    count(rt, b"aaaauuu", 0)?;
+    count(rt, b"GGUUAAUU", 0)?;
+    count(rt, b"gcGCtAta", 0)
 }
 
-fn energy(seq: &[u8]) {
+fn energy(rt: &impl Print, seq: &[u8]) -> io::Result<()> {
     let mut bases = [0u8; 32];
     let mut paired = [0; 528];
     let mut any = [0; 528];
     let mut arms = [0; 528];
     let mut pairs = [0u16; 32];
-    io::write_all(STDOUT_FILENO, b"energy ");
-    io::write_all(STDOUT_FILENO, seq);
-    tell_energy(energy::zuker_mfe(
+    print!(rt; "energy ")?;
+    rt.write_all(seq)?;
+    let minimum = energy::zuker_mfe(
         seq,
         &mut bases,
         &mut paired,
         &mut any,
         &mut arms,
         &mut pairs,
-    ));
-    brackets(&pairs, seq.len());
-    io::write_all(STDOUT_FILENO, b"\n");
+    );
+    tell_energy(rt, minimum)?;
+    brackets(rt, &pairs, seq.len())?;
+    println!(rt;)
 }
 
 // The last two have several structures of the least energy: the order of choices decides.
-fn least_energies() {
-    energy(b"GGAAACC");
-    energy(b"GGGAAACCC");
-    energy(b"GGGAAAACCC");
-    energy(b"GGGAAAAAAGGGAAACCCCCC");
-    energy(b"CGGGGCCCGGCC");
-    energy(b"UGGCGGCGCCCGGC");
+fn least_energies(rt: &impl Print) -> io::Result<()> {
+    energy(rt, b"GGAAACC")?;
+    energy(rt, b"GGGAAACCC")?;
+    energy(rt, b"GGGAAAACCC")?;
+    energy(rt, b"GGGAAAAAAGGGAAACCCCCC")?;
+    energy(rt, b"CGGGGCCCGGCC")?;
+    energy(rt, b"UGGCGGCGCCCGGC")
 }
 
 // The structure that a record leads to.
-fn traced(held: Record, bases: &[u8], cells: &[u16]) {
+fn traced(rt: &impl Print, held: Record, bases: &[u8], cells: &[u16]) -> io::Result<()> {
     let mut pairs = [0u16; 16];
     let n = held.length;
     count_edits::traceback(held, bases, cells, &mut pairs);
-    brackets(&pairs, n);
-    io::write_all(STDOUT_FILENO, b"\n");
+    brackets(rt, &pairs, n)?;
+    println!(rt;)
 }
 
-fn add(held: Record, bases: &mut [u8], cells: &mut [u16], byte: u8) {
+fn add(
+    rt: &impl Print,
+    held: Record,
+    bases: &mut [u8],
+    cells: &mut [u16],
+    byte: u8,
+) -> io::Result<()> {
     let edited = count_edits::add(held, bases, cells, byte);
-    tell_edit(edited);
+    tell_edit(rt, edited)?;
     if let Edited::Done(after, _) = edited {
-        traced(after, bases, cells);
+        traced(rt, after, bases, cells)?;
     }
+    Ok(())
 }
 
-fn replace(held: Record, bases: &mut [u8], cells: &mut [u16], position: usize, byte: u8) -> Record {
+fn replace(
+    rt: &impl Print,
+    held: Record,
+    bases: &mut [u8],
+    cells: &mut [u16],
+    position: usize,
+    byte: u8,
+) -> io::Result<Record> {
     let edited = count_edits::replace(held, bases, cells, position, byte);
-    tell_edit(edited);
+    tell_edit(rt, edited)?;
     match edited {
         Edited::Done(after, _) => {
-            traced(after, bases, cells);
-            after
+            traced(rt, after, bases, cells)?;
+            Ok(after)
         }
-        Edited::Refused(_, kept) => kept,
+        Edited::Refused(_, kept) => Ok(kept),
     }
 }
 
-fn edits() {
+fn edits(rt: &impl Print) -> io::Result<()> {
     let mut bases = [0u8; 16];
     let mut cells = [0u16; 136];
     let mut pairs = [0u16; 16];
     let folded = counting::nussinov(b"GGGAAACCC", 3, &mut bases, &mut cells, &mut pairs);
     let Counted::Folded(fresh, _) = folded else {
-        return;
+        return Ok(());
     };
-    io::write_all(STDOUT_FILENO, b"GGGAAACCC, place 8 becomes A");
-    let held = replace(fresh, &mut bases, &mut cells, 8, b'A');
-    io::write_all(STDOUT_FILENO, b"then C is added");
-    add(held, &mut bases, &mut cells, b'C');
+    print!(rt; "GGGAAACCC, place 8 becomes A")?;
+    let held = replace(rt, fresh, &mut bases, &mut cells, 8, b'A')?;
+    print!(rt; "then C is added")?;
+    add(rt, held, &mut bases, &mut cells, b'C')
 }
 
-fn fold_limits() {
+fn fold_limits(rt: &impl Print) -> io::Result<()> {
     let strand = [71u8; 257];
     let mut bases = [0u8; 257];
     let mut cells = [0u16; 33153];
     let mut pairs = [0u16; 257];
-    io::write_all(STDOUT_FILENO, b"256 bases");
+    print!(rt; "256 bases")?;
     let folded = counting::nussinov(&strand[..256], 3, &mut bases, &mut cells, &mut pairs);
-    tell_count(folded);
-    io::write_all(STDOUT_FILENO, b"\n257 bases");
-    tell_count(counting::nussinov(&strand, 3, &mut bases, &mut cells, &mut pairs));
-    io::write_all(STDOUT_FILENO, b"\n");
+    tell_count(rt, folded)?;
+    print!(rt; "\n257 bases")?;
+    tell_count(
+        rt,
+        counting::nussinov(&strand, 3, &mut bases, &mut cells, &mut pairs),
+    )?;
+    println!(rt;)?;
     if let Counted::Folded(held, _) = folded {
-        io::write_all(STDOUT_FILENO, b"add at 256 bases");
-        tell_edit(count_edits::add(held, &mut bases, &mut cells, b'G'));
-        io::write_all(STDOUT_FILENO, b"\n");
+        print!(rt; "add at 256 bases")?;
+        tell_edit(rt, count_edits::add(held, &mut bases, &mut cells, b'G'))?;
+        println!(rt;)?;
     }
+    Ok(())
 }
 
-fn energy_limits() {
+fn energy_limits(rt: &impl Print) -> io::Result<()> {
     let strand = [71u8; 257];
     let mut bases = [0u8; 257];
     let mut paired = [0; 33153];
     let mut any = [0; 33153];
     let mut arms = [0; 33153];
     let mut pairs = [0u16; 257];
-    io::write_all(STDOUT_FILENO, b"energy of 256 bases");
-    tell_energy(energy::zuker_mfe(
+    print!(rt; "energy of 256 bases")?;
+    let longest = energy::zuker_mfe(
         &strand[..256],
         &mut bases,
         &mut paired,
         &mut any,
         &mut arms,
         &mut pairs,
-    ));
-    io::write_all(STDOUT_FILENO, b"\nenergy of 257 bases");
-    tell_energy(energy::zuker_mfe(
+    );
+    tell_energy(rt, longest)?;
+    print!(rt; "\nenergy of 257 bases")?;
+    let longer = energy::zuker_mfe(
         &strand,
         &mut bases,
         &mut paired,
         &mut any,
         &mut arms,
         &mut pairs,
-    ));
-    io::write_all(STDOUT_FILENO, b"\n");
+    );
+    tell_energy(rt, longer)?;
+    println!(rt;)
 }
 
-fn limits() {
+fn limits(rt: &impl Print) -> io::Result<()> {
     let dots = [46u8; 4097];
     let mut pairs = [0u16; 4097];
-    io::write_all(STDOUT_FILENO, b"4096 positions of text");
-    tell(brackets::from_dot_bracket(&dots[..4096], &mut pairs));
-    io::write_all(STDOUT_FILENO, b"4097 positions of text");
-    tell(brackets::from_dot_bracket(&dots, &mut pairs));
+    print!(rt; "4096 positions of text")?;
+    tell(rt, brackets::from_dot_bracket(&dots[..4096], &mut pairs))?;
+    print!(rt; "4097 positions of text")?;
+    tell(rt, brackets::from_dot_bracket(&dots, &mut pairs))?;
     let table = [65535u16; 4097];
-    io::write_all(STDOUT_FILENO, b"4096 positions of a table");
-    tell(queries::num_pairs(&table[..4096]));
-    io::write_all(STDOUT_FILENO, b"4097 positions of a table");
-    tell(queries::num_pairs(&table));
+    print!(rt; "4096 positions of a table")?;
+    tell(rt, queries::num_pairs(&table[..4096]))?;
+    print!(rt; "4097 positions of a table")?;
+    tell(rt, queries::num_pairs(&table))
 }
 
-fn main() {
-    texts();
-    strands();
-    least_energies();
-    edits();
-    distances();
-    limits();
-    fold_limits();
-    energy_limits();
+fn main(rt: HostRuntime) -> io::Result<()> {
+    texts(&rt)?;
+    strands(&rt)?;
+    least_energies(&rt)?;
+    edits(&rt)?;
+    distances(&rt)?;
+    limits(&rt)?;
+    fold_limits(&rt)?;
+    energy_limits(&rt)
 }

@@ -1,0 +1,13 @@
+-- `lines::put` meets its contract. The loop's invariant: so many bytes of the text stand in the buffer, and nothing else is
+-- changed. The measure is what is left of the text. Assumes nothing.
+use mathlib.Core.Path.{◌≡◌}
+use Prim.Native.Nat.{◌-◌, ◌≤◌}
+use lib.ListN.{length, take}
+use lib.Seq.{sets}
+use Rattle.lines.proofs.put.Given as goal
+
+abbrev pub invariant-loop-i : goal.invariant-loop-i
+invariant-loop-i l = (l.i ≤ length l.text) × (l.out ≡ sets l.initial.out l.at (take l.i l.text)) × (length l.out ≡ length l.initial.out)
+
+abbrev pub decreases-loop-i : goal.decreases-loop-i
+decreases-loop-i l = length l.text - l.i

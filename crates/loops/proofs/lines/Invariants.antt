@@ -1,0 +1,10 @@
+-- `loops::lines` is safe and ends. The loop's invariant: the next line starts in the list or at its end.
+use Prim.Native.Nat.{◌-◌, ◌≤◌}
+use lib.ListN.{length}
+use Rattle.loops.proofs.lines.Given as goal
+
+abbrev pub invariant-loop-at : goal.invariant-loop-at
+invariant-loop-at g l = l.at ≤ length l.list
+
+abbrev pub decreases-loop-at : goal.decreases-loop-at
+decreases-loop-at g l = length l.list - l.at
