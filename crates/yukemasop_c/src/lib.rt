@@ -123,7 +123,7 @@ pub extern "C" fn ykm_zuker_mfe(
         (EnergyFolds seq.now bases.old bases.new paired.old any.old arms.old paired.new any.new arms.new pairs.old pairs.new)
         result }
 {
-    flat::flat_least(energy::zuker_mfe(seq, bases, paired, any, arms, pairs))
+    yukemasop::ykm_zuker_mfe(seq, bases, paired, any, arms, pairs)
 }
 
 #[unsafe(no_mangle)]
