@@ -1,4 +1,5 @@
--- What the inner contracts of reading a text cite: texts without offence, and the turns of the writing. Assumes nothing: these are definitions.
+-- What the inner contracts of reading a text cite: texts without offence, and the turns of the writing.
+-- Assumes nothing: these are definitions.
 use Rattle.std.specs.Prelude.{◌≡◌, ◌≢◌, cond, List, ℕ, ◌<◌, ◌≤◌, eqb, set}
 use Rattle.structure.specs.Table.{unpaired, view, Fold}
 use Rattle.brackets.specs.Brackets.{glyph}

@@ -9,7 +9,8 @@ use structure::Answer;
 mod spelling;
 mod text;
 
-// Bracket text into a pair table. Checks 3; 5 or 6 at the first offending place; 7; 4. Nothing is written before all of the text is judged.
+// Bracket text into a pair table. Checks 3; 5 or 6 at the first offending place; 7; 4.
+// Nothing is written before all of the text is judged.
 #[tactic(auto, unfolding(crate::specs::Text::text_due))]
 pub fn from_dot_bracket(text: &[u8], pairs: &mut [u16]) -> Answer
     ensures { Parses text.now pairs.old pairs.new result }

@@ -35,7 +35,8 @@ pub record Rows {A : Type 0} (rule : Rule A) (Ok : Bases → ℕ → ℕ → A �
   pub fine : FineFrom (Ok b) (at g) i j
 
 -- From g₀ to g, the rows up to `top` of the columns from `first` to before `n` were rewritten by the rule, and nothing else.
-pub record Columns {A : Type 0} (rule : Rule A) (Ok : Bases → ℕ → ℕ → A → Type 0) (b : Bases) (g₀ g : ℕ → A) (first top n : ℕ) : Type 0 where
+pub record Columns {A : Type 0} (rule : Rule A) (Ok : Bases → ℕ → ℕ → A → Type 0) (b : Bases) (g₀ g : ℕ → A)
+    (first top n : ℕ) : Type 0 where
   pub kept : (k : ℕ) → ((i j : ℕ) → i ≤ j → first ≤ j → j < n → i ≤ top → k ≡ place i j → ⊥) → g k ≡ g₀ k
   pub fresh : (i j : ℕ) → i ≤ j → first ≤ j → j < n → i ≤ top → at g i j ≡ rule b (at g) i j
   pub fine : Fine (Ok b) (at g) n

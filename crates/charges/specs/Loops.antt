@@ -1,5 +1,7 @@
--- What a structure costs, by its pair table and its bases alone: p is the entries of a sound table, b the letters of the bases. Assumes nothing: these are definitions.
-use Rattle.std.specs.Prelude.{◌≡◌, ◌≢◌, Bool, true, not, cond, ◌&&◌, List, ℕ, zero, suc, ◌+◌, ◌-◌, ◌<◌, ◌≤◌, leb, eqb, ℤ, pos, ◌+ℤ◌, length}
+-- What a structure costs, by its pair table and its bases alone: p is the entries of a sound table, b the letters of the bases.
+-- Assumes nothing: these are definitions.
+use Rattle.std.specs.Prelude.{◌≡◌, ◌≢◌, Bool, true, not, cond, ◌&&◌, List, ℕ, zero, suc, ◌+◌, ◌-◌, ◌<◌, ◌≤◌, leb, eqb}
+use Rattle.std.specs.Prelude.{ℤ, pos, ◌+ℤ◌, length}
 use Rattle.std.specs.Int.Signed.{le_z}
 use Rattle.bases.specs.Bases.{pair_index}
 use Rattle.structure.specs.Table.{unpaired, view, opens, Fold}
@@ -53,7 +55,8 @@ abbrev pub first_in : (ℕ → ℕ) → ℕ → ℕ → ℕ
 first_in p lo hi = first p (hi - lo) lo
 
 -- ---- the kind of a loop
--- the rule for one inner pair: its own kind where no side is too long and its own figure is at most the many-armed one, otherwise many-armed
+-- the rule for one inner pair: its own kind where no side is too long and its own figure is at most the many-armed one,
+-- otherwise many-armed
 unfoldable pub single : (ℕ → ℕ) → ℕ → ℕ → ℕ → ℕ → Loop
 single b i j x y =
     cond (leb (x - suc i) longest_side && leb (j - suc y) longest_side)

@@ -1,4 +1,5 @@
-// The inner pairs of a loop, by a walk along a span that folds: it jumps over each pair, so that all loops of a structure together take time linear in its length.
+// The inner pairs of a loop, by a walk along a span that folds:
+// it jumps over each pair, so that all loops of a structure together take time linear in its length.
 ghost use Rattle.std.specs.Prelude.{◌≡◌, cond, ◌+◌, ◌<◌, ◌≤◌, eqb, length};
 ghost use Rattle.structure.specs.Table.{unpaired, view, Fold};
 ghost use Rattle.charges.specs.Loops.{arms_in, first_in};

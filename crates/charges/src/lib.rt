@@ -1,4 +1,5 @@
-// What a structure costs: its first pair that may not close a loop, the kind and the charge of each loop, and the energy as the sum over the loops.
+// What a structure costs: its first pair that may not close a loop, the kind and the charge of each loop,
+// and the energy as the sum over the loops.
 // These are inner parts: who calls them has tested that the structure is sound and that each of its pairs may close a loop.
 #![tactic(auto)]
 

@@ -30,12 +30,15 @@ pub record Wrote (gap : ℕ) (b b' t t' : List ℕ) (p x n : ℕ) : Type 0 where
 
 -- `replace` of the base at p by that of the byte x
 abbrev pub Replaces : Record → (b b' t t' : List ℕ) → ℕ → ℕ → Edited → Type 0
-Replaces r b b' t t' p x (Done k m) = (replace_due r.length b t p x ≡ clear) × (k ≡ r) × Wrote r.gap b b' t t' p (normal x) r.length × (m ≡ count_of t' r.length)
+Replaces r b b' t t' p x (Done k m) =
+    (replace_due r.length b t p x ≡ clear) × (k ≡ r) × Wrote r.gap b b' t t' p (normal x) r.length × (m ≡ count_of t' r.length)
 Replaces r b b' t t' p x (EditRefused q k) = (replace_due r.length b t p x ≡ due_of q) × (k ≡ r) × (b' ≡ b) × (t' ≡ t)
 
 -- `add` of the base of the byte x: a replace at the end of one base more
 abbrev pub Adds : Record → (b b' t t' : List ℕ) → ℕ → Edited → Type 0
-Adds r b b' t t' x (Done k m) = (add_due r.length b t x ≡ clear) × (k ≡ longer r) × Wrote r.gap b b' t t' r.length (normal x) (r.length + 1) × (m ≡ count_of t' (r.length + 1))
+Adds r b b' t t' x (Done k m) =
+    (add_due r.length b t x ≡ clear) × (k ≡ longer r) × Wrote r.gap b b' t t' r.length (normal x) (r.length + 1)
+    × (m ≡ count_of t' (r.length + 1))
 Adds r b b' t t' x (EditRefused q k) = (add_due r.length b t x ≡ due_of q) × (k ≡ r) × (b' ≡ b) × (t' ≡ t)
 
 -- `erase`, which is lent nothing that it could write

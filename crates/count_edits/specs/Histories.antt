@@ -1,4 +1,5 @@
--- DEMAND 3 in terms of the public pair-count calls: what a caller holds between calls, what a call does to it by the call's own contract, and
+-- DEMAND 3 in terms of the public pair-count calls:
+-- what a caller holds between calls, what a call does to it by the call's own contract, and
 -- what it is to be as a fresh fold leaves it. Assumes nothing: these are definitions.
 use Rattle.std.specs.Prelude.{◌≡◌, Bool, List, ℕ, ◌≤◌, ◌<◌, take}
 use Rattle.structure.specs.Table.{view}

@@ -61,7 +61,8 @@ fn start(bases: &[u8], cells: &mut [u16], j: usize, to: usize, from: usize, gap:
     }
 }
 
-// One pass: the rows of the column at `col`, each plus `v`, are taken into the column at `to`. Stored without a test, so that it stays fast.
+// One pass: the rows of the column at `col`, each plus `v`, are taken into the column at `to`.
+// Stored without a test, so that it stays fast.
 fn raise(cells: &mut [u16], col: usize, to: usize, rows: usize, v: u16)
     requires { (col + rows ≤ to) × (to + rows ≤ length cells.old) × Fit (view cells.old) col rows v }
     ensures { Raised max (λ x. x + v) (view cells.old) (view cells.old) (view cells.new) col to rows }
@@ -92,7 +93,8 @@ fn settle(cells: &mut [u16], j: usize, to: usize, from: usize)
 
 // Rewrites column j from row `from` to row 0.
 pub fn rows(bases: &[u8], cells: &mut [u16], j: usize, from: usize, gap: usize)
-    requires { (from ≤ j) × (j < 65535) × (j < length bases.now) × (tri (j + 1) ≤ length cells.old) × FineFrom (Half (view bases.now)) (at (view cells.old)) (from + 1) j }
+    requires { (from ≤ j) × (j < 65535) × (j < length bases.now) × (tri (j + 1) ≤ length cells.old)
+        × FineFrom (Half (view bases.now)) (at (view cells.old)) (from + 1) j }
     ensures { Rows (nussinov gap) Half (view bases.now) (view cells.old) (view cells.new) j from 0 }
 {
     let to = cells::place(0, j);

@@ -14,7 +14,8 @@ mod column;
 
 // Rewrites the columns from `first` to before `n`, each from row `top` or its last to row 0.
 pub fn columns(bases: &[u8], cells: &mut [u16], first: usize, top: usize, n: usize, gap: usize)
-    requires { (first ≤ n) × (n < 65535) × (n ≤ length bases.now) × (tri n ≤ length cells.old) × FineElse (Half (view bases.now)) (at (view cells.old)) first top n }
+    requires { (first ≤ n) × (n < 65535) × (n ≤ length bases.now) × (tri n ≤ length cells.old)
+        × FineElse (Half (view bases.now)) (at (view cells.old)) first top n }
     ensures { Columns (nussinov gap) Half (view bases.now) (view cells.old) (view cells.new) first top n }
 {
     let mut j = first;

@@ -28,5 +28,6 @@ pub record Made (s : List ℕ) (gap : ℕ) (b b' t t' o o' : List ℕ) : Type 0 
 
 -- `nussinov` of the sequence s
 abbrev pub Folds : List ℕ → ℕ → (b b' t t' o o' : List ℕ) → Counted → Type 0
-Folds s gap b b' t t' o o' (Folded r m) = (fold_due s b t o ≡ clear) × (r ≡ record_of (length s) gap) × Made s gap b b' t t' o o' × (m ≡ count_of t' (length s))
+Folds s gap b b' t t' o o' (Folded r m) =
+    (fold_due s b t o ≡ clear) × (r ≡ record_of (length s) gap) × Made s gap b b' t t' o o' × (m ≡ count_of t' (length s))
 Folds s gap b b' t t' o o' (Refused q) = (fold_due s b t o ≡ due_of q) × (b' ≡ b) × (t' ≡ t) × (o' ≡ o)

@@ -1,4 +1,5 @@
--- Runs of calls, each answered as its own contract permits. For every kind of fold: R is its record, F the figure that it tells, a count or
+-- Runs of calls, each answered as its own contract permits.
+-- For every kind of fold: R is its record, F the figure that it tells, a count or
 -- an energy, T its tables. Assumes nothing: these are definitions.
 use Rattle.std.specs.Prelude.{◌≡◌, Bool, true, false, List, [], ◌∷◌, ℕ}
 use Rattle.edits.specs.Edits.{Edit}

@@ -15,7 +15,8 @@ ghost use Rattle.energy_fill.specs.Passes.{Started, closed, begun, link};
 
 // The least with i and j paired: a hairpin, one inner pair, or arms.
 fn close(bases: &[u8], sides: &[i32], paired: &[i32], arms: &[i32], i: usize, j: usize) -> i32
-    requires { (i ≤ j) × Before bases.now paired.now j × Sides sides.now × (tri j ≤ length arms.now) × Fine InRange (at (nums arms.now)) j }
+    requires { (i ≤ j) × Before bases.now paired.now j × Sides sides.now × (tri j ≤ length arms.now)
+        × Fine InRange (at (nums arms.now)) j }
     ensures { result ≡ closed (view bases.now) (table paired.now) (table arms.now) j i }
 {
     if !closing::may_close(bases, i, j) {
@@ -97,7 +98,8 @@ fn start(
     ints::store(cells, to + j, limit);
 }
 
-// One pass: the rows of the column at `col`, each with `v`, are taken into the column at `to`. Stored without a test, so that it stays fast.
+// One pass: the rows of the column at `col`, each with `v`, are taken into the column at `to`.
+// Stored without a test, so that it stays fast.
 fn lower(cells: &mut [i32], col: usize, to: usize, rows: usize, v: i32)
     requires { (col + rows ≤ to) × (to + rows ≤ length cells.old) × Small v × Smalls (nums cells.old) col rows }
     ensures { Raised minℤ (λ x. add_e x v) (nums cells.old) (nums cells.old) (nums cells.new) col to rows }

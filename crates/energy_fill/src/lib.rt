@@ -26,7 +26,8 @@ pub fn columns(
 )
     requires first_le_n { (first ≤ n) × Room bases.now paired.old any.old arms.old n × Sides sides.now }
     requires fine_else { FineElse (Ranged (view bases.now)) (at (three paired.old any.old arms.old)) first top n }
-    ensures { Columns energies Ranged (view bases.now) (three paired.old any.old arms.old) (three paired.new any.new arms.new) first top n }
+    ensures { Columns energies Ranged (view bases.now) (three paired.old any.old arms.old)
+        (three paired.new any.new arms.new) first top n }
 {
     let mut j = first;
     while j < n {

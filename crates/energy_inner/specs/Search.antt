@@ -1,4 +1,5 @@
--- The search for the one inner pair of a loop by runs over contiguous cells, and what it asks of the cells. Assumes nothing: these are definitions.
+-- The search for the one inner pair of a loop by runs over contiguous cells, and what it asks of the cells.
+-- Assumes nothing: these are definitions.
 use Rattle.std.specs.Prelude.{◌≡◌, false, List, ℕ, suc, ◌+◌, ◌-◌, ◌*◌, ◌≤◌, ◌<◌, min, ℤ, pos, length, ◌≤ℤ◌, ◌<ℤ◌}
 use Rattle.structure.specs.Table.{view}
 use Rattle.cells.specs.Tri.{tri, place}

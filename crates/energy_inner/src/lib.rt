@@ -1,4 +1,5 @@
-// The search for the one inner pair of a loop: the stack and the two bulges of one base by their own figures, all others by runs over contiguous cells.
+// The search for the one inner pair of a loop:
+// the stack and the two bulges of one base by their own figures, all others by runs over contiguous cells.
 #![tactic(auto)]
 
 ghost use Rattle.std.specs.Prelude.{◌≡◌, true, ℕ, suc, ◌+◌, ◌-◌, ◌≤◌, ◌<◌, length};
@@ -20,7 +21,8 @@ fn above(a: usize, b: usize) -> usize
     if b < a { a - b } else { 0 }
 }
 
-// The least of the cells `from + l` with the charges `row + l`, l from `lo` to before `hi`. No test for the mark: with a charge it is no less.
+// The least of the cells `from + l` with the charges `row + l`, l from `lo` to before `hi`.
+// No test for the mark: with a charge it is no less.
 fn run(paired: &[i32], sides: &[i32], from: usize, row: usize, lo: usize, hi: usize) -> i32
     requires hi_in_bounds { (from + hi ≤ length paired.now) × (row + hi ≤ length sides.now) × Smalls (nums paired.now) from hi }
     requires by_index { (l : ℕ) → lo ≤ l → l < hi → Charge (nums sides.now (row + l)) }
@@ -36,7 +38,8 @@ fn run(paired: &[i32], sides: &[i32], from: usize, row: usize, lo: usize, hi: us
     best
 }
 
-// The least of the inner pairs with two bases or more beside them: one run for each right side, whose cells and charges both lie side by side.
+// The least of the inner pairs with two bases or more beside them:
+// one run for each right side, whose cells and charges both lie side by side.
 fn near(paired: &[i32], sides: &[i32], i: usize, j: usize) -> i32
     requires { (i + smallest_hairpin < j) × (j < longest + 2) × (tri j ≤ length paired.now)
         × Fine InRange (at (nums paired.now)) j × Sides sides.now }

@@ -24,7 +24,8 @@ pub record Ranged (b : Bases) (i j : ℕ) (c : Cell) : Type 0 where
 abbrev pub highest : ℕ
 highest = 30000
 
--- a believable cell: the mark for none, or from the span's floor up to the highest; any structure at most 0; paired the mark exactly where i and j can't pair
+-- a believable cell: the mark for none, or from the span's floor up to the highest; any structure at most 0;
+-- paired the mark exactly where i and j can't pair
 pub record Believable (b : Bases) (i j : ℕ) (c : Cell) : Type 0 where
   pub none : may_close b i j ≡ false → c.0 ≡ mark
   pub some : may_close b i j ≡ true → In (floor i j) (pos highest) c.0

@@ -1,4 +1,5 @@
--- The cell rules of the least-energy fold, in thousandths. A cell is a triple: the least with i and j paired, the least of any structure on the
+-- The cell rules of the least-energy fold, in thousandths.
+-- A cell is a triple: the least with i and j paired, the least of any structure on the
 -- span, the least of the span as one or more arms. Assumes nothing: these are definitions.
 use Rattle.std.specs.Prelude.{cond, ℕ, suc, ◌+◌, ◌-◌, ◌*◌, min, max, ltb, ℤ, pos}
 use Rattle.cells.specs.Rule.{Bases, Cells, Rule}
@@ -36,7 +37,8 @@ interior b v i j = min_from (inner_from b v i j) (i + 1) (min (suc longest_side)
 
 -- the least of a hairpin, one inner pair, or arms; the mark where i and j may not close a loop
 unfoldable pub paired : Bases → Table → Table → ℕ → ℕ → ℤ
-paired b v m i j = cond (may_close b i j) (minℤ (minℤ (hairpin_at b i j) (interior b v i j)) (add_e (m (i + 1) (j - 1)) closing_charge)) mark
+paired b v m i j =
+    cond (may_close b i j) (minℤ (minℤ (hairpin_at b i j) (interior b v i j)) (add_e (m (i + 1) (j - 1)) closing_charge)) mark
 
 -- ---- the other two
 -- the least of the splits after k, from i + 1 to j − 1

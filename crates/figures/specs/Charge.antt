@@ -32,11 +32,13 @@ long = map pos fig.long
 
 -- a figure by size, of a table that begins at the size `first`; above 30 the term of the long table is added to the figure of 30
 unfoldable pub sized : List ℤ → ℕ → ℕ → ℤ
-sized t first n = cond (leb n tabled) (get_or t (n - first) (pos 0)) (get_or t (tabled - first) (pos 0) +ℤ get_or long (n - suc tabled) (pos 0))
+sized t first n =
+    cond (leb n tabled) (get_or t (n - first) (pos 0)) (get_or t (tabled - first) (pos 0) +ℤ get_or long (n - suc tabled) (pos 0))
 
 -- a hairpin of n bases, p of the two just inside its closing pair purines: these count from the next size on
 unfoldable pub hairpin_of : ℕ → ℕ → ℤ
-hairpin_of n p = cond (eqb n smallest_hairpin) (sized hairpin smallest_hairpin n) (sized hairpin smallest_hairpin n +ℤ get_or mismatch p (pos 0))
+hairpin_of n p =
+    cond (eqb n smallest_hairpin) (sized hairpin smallest_hairpin n) (sized hairpin smallest_hairpin n +ℤ get_or mismatch p (pos 0))
 
 -- the inner pair i, by its number, straight on the outer pair o
 unfoldable pub stack_at : ℕ → ℕ → ℤ
@@ -62,7 +64,8 @@ many_of m = pos (100 * fig.closing + 100 * fig.arm * m)
 unfoldable pub between : ℕ → ℕ → Loop
 between l r = cond (eqb l 0) (cond (eqb r 0) Stack (Bulge r)) (cond (eqb r 0) (Bulge l) (Internal l r))
 
--- the charge of a loop: o is the number of its closing pair and i that of its one inner pair, and p of the two bases just inside a hairpin are purines
+-- the charge of a loop: o is the number of its closing pair and i that of its one inner pair,
+-- and p of the two bases just inside a hairpin are purines
 abbrev pub charge_of : Loop → ℕ → ℕ → ℕ → ℤ
 charge_of (Hairpin n) o i p = hairpin_of n p
 charge_of Stack o i p = stack_at o i

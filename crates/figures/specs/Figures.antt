@@ -1,4 +1,5 @@
--- The figures of docs/RULES.md, "What a loop costs", as printed there: tenths of kcal/mol, and the term of long loops in thousandths. Assumes nothing: these are definitions.
+-- The figures of docs/RULES.md, "What a loop costs", as printed there:
+-- tenths of kcal/mol, and the term of long loops in thousandths. Assumes nothing: these are definitions.
 use Rattle.std.specs.Prelude.{List, [], ◌∷◌, ℕ, ◌+◌, length}
 
 -- the smallest hairpin
@@ -12,7 +13,8 @@ tabled = 30
 -- hairpins, from the smallest to size 30
 unfoldable pub hairpin : List ℕ
 hairpin =
-    54 ∷ 56 ∷ 57 ∷ 54 ∷ 56 ∷ 57 ∷ 54 ∷ 56 ∷ 57 ∷ 58 ∷ 59 ∷ 59 ∷ 60 ∷ 61 ∷ 61 ∷ 62 ∷ 62 ∷ 63 ∷ 63 ∷ 63 ∷ 64 ∷ 64 ∷ 64 ∷ 65 ∷ 65 ∷ 65 ∷ 65 ∷ 66
+    54 ∷ 56 ∷ 57 ∷ 54 ∷ 56 ∷ 57 ∷ 54 ∷ 56 ∷ 57 ∷ 58 ∷ 59 ∷ 59 ∷ 60 ∷ 61 ∷ 61
+    ∷ 62 ∷ 62 ∷ 63 ∷ 63 ∷ 63 ∷ 64 ∷ 64 ∷ 64 ∷ 65 ∷ 65 ∷ 65 ∷ 65 ∷ 66
     ∷ []
 
 -- of the two bases just inside a hairpin's closing pair none, one or both are purines: below zero, without the sign
@@ -22,13 +24,15 @@ mismatch = 0 ∷ 4 ∷ 8 ∷ []
 -- bulges, sizes 1 to 30
 unfoldable pub bulge : List ℕ
 bulge =
-    38 ∷ 28 ∷ 32 ∷ 36 ∷ 40 ∷ 44 ∷ 46 ∷ 47 ∷ 48 ∷ 49 ∷ 50 ∷ 51 ∷ 52 ∷ 53 ∷ 54 ∷ 54 ∷ 55 ∷ 55 ∷ 56 ∷ 56 ∷ 57 ∷ 57 ∷ 58 ∷ 58 ∷ 58 ∷ 59 ∷ 59 ∷ 59 ∷ 60 ∷ 60
+    38 ∷ 28 ∷ 32 ∷ 36 ∷ 40 ∷ 44 ∷ 46 ∷ 47 ∷ 48 ∷ 49 ∷ 50 ∷ 51 ∷ 52 ∷ 53 ∷ 54
+    ∷ 54 ∷ 55 ∷ 55 ∷ 56 ∷ 56 ∷ 57 ∷ 57 ∷ 58 ∷ 58 ∷ 58 ∷ 59 ∷ 59 ∷ 59 ∷ 60 ∷ 60
     ∷ []
 
 -- internal loops, sizes 2 to 30
 unfoldable pub internal : List ℕ
 internal =
-    0 ∷ 0 ∷ 11 ∷ 20 ∷ 20 ∷ 21 ∷ 23 ∷ 24 ∷ 25 ∷ 26 ∷ 27 ∷ 28 ∷ 29 ∷ 29 ∷ 30 ∷ 31 ∷ 31 ∷ 32 ∷ 32 ∷ 33 ∷ 33 ∷ 34 ∷ 34 ∷ 34 ∷ 35 ∷ 35 ∷ 35 ∷ 36 ∷ 36
+    0 ∷ 0 ∷ 11 ∷ 20 ∷ 20 ∷ 21 ∷ 23 ∷ 24 ∷ 25 ∷ 26 ∷ 27 ∷ 28 ∷ 29 ∷ 29 ∷ 30
+    ∷ 31 ∷ 31 ∷ 32 ∷ 32 ∷ 33 ∷ 33 ∷ 34 ∷ 34 ∷ 34 ∷ 35 ∷ 35 ∷ 35 ∷ 36 ∷ 36
     ∷ []
 
 -- for each base by which the sides of an internal loop differ, and the most of this

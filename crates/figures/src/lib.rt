@@ -24,7 +24,8 @@ pub const LONGEST_SIDE: usize = 29;
 // How many pairs of sides there are.
 pub const SIDES: usize = (LONGEST_SIDE + 1) * (LONGEST_SIDE + 1);
 
-// The loop of a closing pair, by kind: a hairpin of that many bases, a stack, a bulge of that many, an internal loop with its two sides, a many-armed loop with that many inner pairs.
+// The loop of a closing pair, by kind: a hairpin of that many bases, a stack, a bulge of that many,
+// an internal loop with its two sides, a many-armed loop with that many inner pairs.
 #[derive(Clone, Copy)]
 pub enum Loop {
     Hairpin(usize),
@@ -34,7 +35,8 @@ pub enum Loop {
     Many(usize),
 }
 
-// What a loop costs: `outer` is the number of its closing pair and `inner` that of its one inner pair, and `purines` of the two bases just inside a hairpin are purines.
+// What a loop costs: `outer` is the number of its closing pair and `inner` that of its one inner pair,
+// and `purines` of the two bases just inside a hairpin are purines.
 pub fn charge(kind: Loop, outer: usize, inner: usize, purines: usize) -> i32
     requires { Figured kind outer inner purines }
     ensures { result ≡ charge_of kind outer inner purines }
@@ -64,7 +66,8 @@ pub fn between(left: usize, right: usize) -> Loop
     Loop::Internal(left, right)
 }
 
-// Writes the charges of all loops with one inner pair by their two sides: once a fold, for a search that reads a lent slice, since a const table is copied at every read.
+// Writes the charges of all loops with one inner pair by their two sides:
+// once a fold, for a search that reads a lent slice, since a const table is copied at every read.
 pub fn sides(out: &mut [i32])
     requires { length out.old ≡ side_count }
     ensures { Sides out.new }

@@ -2,7 +2,8 @@
 #![tactic(auto)]
 
 ghost use Rattle.std.specs.Prelude.{◌≡◌};
-ghost use Rattle.flat.specs.Flat.{flat_place, flat_refusal, flat_answer, flat_pairing, flat_partner, flat_counted, flat_edited, flat_traced, flat_least};
+ghost use Rattle.flat.specs.Flat.{flat_place, flat_refusal, flat_answer, flat_pairing, flat_partner};
+ghost use Rattle.flat.specs.Flat.{flat_counted, flat_edited, flat_traced, flat_least};
 
 use count_edits::{Edited, Traced};
 use counting::Counted;

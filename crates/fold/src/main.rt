@@ -135,7 +135,8 @@ fn next_byte(input: &mut impl Read) -> io::Result<Next> {
     Ok(Next::Byte(byte[0]))
 }
 
-// The line, as far as there is room; how many bytes it has. After a failed read the room is as long as it was, and what it holds is undecided.
+// The line, as far as there is room; how many bytes it has.
+// After a failed read the room is as long as it was, and what it holds is undecided.
 fn read_line(input: &mut impl Read, line: &mut [u8]) -> io::Result<usize>
     ensures ok { IfOk result (λ n. IsPrefixLen n line.new) }
     ensures err { OnErr result (length line.new ≡ length line.old) }

@@ -1,4 +1,5 @@
--- Signed numbers and energies: the smaller of two, the mark, a sum that a mark absorbs, the least of a run. Assumes nothing: these are definitions.
+-- Signed numbers and energies: the smaller of two, the mark, a sum that a mark absorbs, the least of a run.
+-- Assumes nothing: these are definitions.
 use Rattle.std.specs.Prelude.{cond, ℕ, zero, suc, ◌+◌, ℤ, pos, neg_ℤ, ◌+ℤ◌, ◌≤ℤ◌}
 use Rattle.std.specs.Int.Signed.{lt_z, le_z}
 

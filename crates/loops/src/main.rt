@@ -1,4 +1,5 @@
-// What structures cost. A line of standard input is a strand and its brackets; for each, every loop is written with its opening place, kind and charge, and then the energy.
+// What structures cost. A line of standard input is a strand and its brackets;
+// for each, every loop is written with its opening place, kind and charge, and then the energy.
 #![tactic(auto)]
 
 ghost use Rattle.std.specs.Prelude.{◌≡◌, true, ◌<◌, length};

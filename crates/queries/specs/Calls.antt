@@ -21,7 +21,8 @@ listed p (suc k) = listed p k ++ listed_at k (p k)
 
 -- `base_pairs` of the table t
 abbrev pub Lists : List ℕ → List ℕ → List ℕ → Answer → Type 0
-Lists t o o' (Number m) = (write_due t (length o) (2 * pairs t) ≡ clear) × (m ≡ pairs t) × (o' ≡ listed (view t) (length t) ++ drop (2 * pairs t) o)
+Lists t o o' (Number m) =
+    (write_due t (length o) (2 * pairs t) ≡ clear) × (m ≡ pairs t) × (o' ≡ listed (view t) (length t) ++ drop (2 * pairs t) o)
 Lists t o o' (Refused q) = (write_due t (length o) (2 * pairs t) ≡ due_of q) × (o' ≡ o)
 
 -- position i is inside the table and has a partner

@@ -1,7 +1,8 @@
 -- The rules' table of refusals, rows of checks, and the limits. Assumes nothing: these are definitions.
 use Rattle.std.specs.Prelude.{Bool, true, false, ◌||◌, ℕ, zero, suc}
 use Rattle.refusals.specs.declared.Refusal.{Refusal}
-use Rattle.refusals.specs.declared.Refusal.TheVariants.{Empty, NoBase, TooLong, TooShort, Unopened, NoBracket, Unclosed, Unsound, Unequal, Outside, Unbelievable}
+use Rattle.refusals.specs.declared.Refusal.TheVariants.{Empty, NoBase, TooLong, TooShort, Unopened, NoBracket}
+use Rattle.refusals.specs.declared.Refusal.TheVariants.{Unclosed, Unsound, Unequal, Outside, Unbelievable}
 use Rattle.refusals.specs.declared.Place.{Place}
 use Rattle.refusals.specs.declared.Place.TheVariants.{Nowhere, At}
 use Rattle.refusals.specs.declared.Verdict.{Verdict}

@@ -62,7 +62,8 @@ fn count_fold_agrees(line: &[u8], bases: &mut [u8], cells: &mut [u16], pairs: &m
     brackets_agree(&pairs[0..n], fields::field(line, 3))
 }
 
-// By how many thousandths the original's energy of n bases may differ: ours rounds the terms of loops above size 30, of which each has 31 bases or more.
+// By how many thousandths the original's energy of n bases may differ:
+// ours rounds the terms of loops above size 30, of which each has 31 bases or more.
 fn slack(n: usize) -> usize {
     if n <= EXACT { 0 } else { n / 31 }
 }

@@ -3,7 +3,8 @@ ghost use Rattle.std.specs.Prelude.{◌≡◌, ◌+◌, ◌≤◌, ◌<◌};
 
 use std::io;
 
-// The lines so far, those whose pair-count fold agrees, those whose energy fold does, and the first that differs in either, counted from 1; 0 while none does.
+// The lines so far, those whose pair-count fold agrees, those whose energy fold does, and the first that differs in either,
+// counted from 1; 0 while none does.
 #[derive(Clone, Copy)]
 pub struct Tally {
     pub lines: usize,

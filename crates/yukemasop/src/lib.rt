@@ -11,7 +11,8 @@ ghost use Rattle.distances.specs.Distance.{Measures, base_pair_distance, mountai
 ghost use Rattle.counting.specs.Calls.{Folds};
 ghost use Rattle.count_edits.specs.Calls.{Replaces, Adds, Erases, Traces};
 ghost use Rattle.energy.specs.Calls.{Folds as EnergyFolds};
-ghost use Rattle.flat.specs.Flat.{flat_base, flat_answer, flat_pairing, flat_partner, flat_counted, flat_edited, flat_traced, flat_least, record_in, Flat};
+ghost use Rattle.flat.specs.Flat.{flat_base, flat_answer, flat_pairing, flat_partner};
+ghost use Rattle.flat.specs.Flat.{flat_counted, flat_edited, flat_traced, flat_least, record_in, Flat};
 
 use bases::Reading;
 use counting::Record;

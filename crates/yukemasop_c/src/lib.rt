@@ -1,4 +1,5 @@
-// What libyukemasop.a exports: each call of `yukemasop` under its own name, with its contract. A crate is a library or an archive, not both.
+// What libyukemasop.a exports: each call of `yukemasop` under its own name, with its contract.
+// A crate is a library or an archive, not both.
 #![tactic(auto)]
 
 ghost use Rattle.std.specs.Prelude.{◌≡◌};
@@ -9,7 +10,8 @@ ghost use Rattle.distances.specs.Distance.{Measures, base_pair_distance, mountai
 ghost use Rattle.counting.specs.Calls.{Folds};
 ghost use Rattle.count_edits.specs.Calls.{Replaces, Adds, Erases, Traces};
 ghost use Rattle.energy.specs.Calls.{Folds as EnergyFolds};
-ghost use Rattle.flat.specs.Flat.{flat_base, flat_answer, flat_pairing, flat_partner, flat_counted, flat_edited, flat_traced, flat_least, record_in, Flat};
+ghost use Rattle.flat.specs.Flat.{flat_base, flat_answer, flat_pairing, flat_partner};
+ghost use Rattle.flat.specs.Flat.{flat_counted, flat_edited, flat_traced, flat_least, record_in, Flat};
 
 use flat::{YkmAnswer, YkmBase, YkmCounted, YkmLeast, YkmRecord};
 
