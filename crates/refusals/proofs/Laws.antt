@@ -10,8 +10,7 @@ use lib.ListN.{get_or}
 use native.Mathlib.Omega.{arith}
 use Rattle.refusals.specs.declared.Refusal.{Refusal}
 use Rattle.refusals.specs.declared.Refusal.TheVariants.{Empty, NoBase, TooLong, TooShort, Unopened, NoBracket, Unclosed, Unsound, Unequal, Outside, Unbelievable}
-use Rattle.refusals.specs.declared.Place.{Place}
-use Rattle.refusals.specs.declared.Place.TheVariants.{Nowhere, At}
+use Rattle.std.proofs.Common.{Option, None, Some}
 use Rattle.refusals.specs.Refusals.{number, place, Due, clear, refuse, check, then, each, some, due_of}
 
 or_right : (p q : Bool) → ¬ (p ≡ true) → (p || q) ≡ true → q ≡ true
@@ -27,12 +26,12 @@ not_true_false : (p : Bool) → ¬ (p ≡ true) → p ≡ false
 not_true_false true n = absurd (n refl)
 not_true_false false n = refl
 
-at : Place → ℕ
-at Nowhere = 0
-at (At k) = k
+at : Option ℕ → ℕ
+at None = 0
+at (Some k) = k
 
 -- the refusal with a number and a place
-refusal_of : ℕ → Place → Refusal
+refusal_of : ℕ → Option ℕ → Refusal
 refusal_of num p =
     get_or (Empty ∷ NoBase (at p) ∷ TooLong ∷ TooShort ∷ Unopened (at p) ∷ NoBracket (at p) ∷ Unclosed (at p) ∷ Unsound (at p) ∷ Unequal ∷ Outside ∷ []) (num - 1)
     Unbelievable
@@ -62,7 +61,7 @@ one_refusal {d} q q' p r =
     let pl : place q ≡ place q' = cc in
     sym (refusal_of_lem q) ∙ (cc) ∙ refusal_of_lem q'
 
-pub check_clear : (t : Bool) (num : ℕ) (at : Place) → check t num at ≡ clear → t ≡ false
+pub check_clear : (t : Bool) (num : ℕ) (at : Option ℕ) → check t num at ≡ clear → t ≡ false
 check_clear true num at e = let z : ◌≡◌ {A = ℕ} 0 1 = cc in absurd (omega arith)
 check_clear false num at e = refl
 
@@ -71,12 +70,12 @@ then_clear clear w e = (refl, e)
 then_clear (refuse num at) w e = let z : ◌≡◌ {A = ℕ} 0 1 = cc in absurd (omega arith)
 
 -- how a row is read: a refusal is that of the first row, or the first row finds nothing and it is that of the second
-pub then_refuse : (v w : Due) (num : ℕ) (at : Place) → then v w ≡ refuse num at → (v ≡ refuse num at) ⊎ ((v ≡ clear) × (w ≡ refuse num at))
+pub then_refuse : (v w : Due) (num : ℕ) (at : Option ℕ) → then v w ≡ refuse num at → (v ≡ refuse num at) ⊎ ((v ≡ clear) × (w ≡ refuse num at))
 then_refuse clear w num at e = inr (refl, e)
 then_refuse (refuse m p) w num at e = inl e
 
 -- and one check gives its own number and place, where its test is true
-pub check_refuse : (t : Bool) (num num' : ℕ) (at at' : Place) → check t num at ≡ refuse num' at' → (t ≡ true) × (num ≡ num') × (at ≡ at')
+pub check_refuse : (t : Bool) (num num' : ℕ) (at at' : Option ℕ) → check t num at ≡ refuse num' at' → (t ≡ true) × (num ≡ num') × (at ≡ at')
 check_refuse true num num' at at' e = (refl, cc, cc)
 check_refuse false num num' at at' e = let z : ◌≡◌ {A = ℕ} 0 1 = cc in absurd (omega arith)
 
@@ -97,7 +96,7 @@ pub each_step : (f : ℕ → Due) (i : ℕ) → each f i ≡ clear → f i ≡ c
 each_step f i e d = rw (add-one i) (rw e d)
 
 -- a refusal found at the first place that has one is that of the whole row
-pub each_found : (f : ℕ → Due) (i n : ℕ) (num : ℕ) (at : Place) → i < n → each f i ≡ clear → f i ≡ refuse num at → each f n ≡ refuse num at
+pub each_found : (f : ℕ → Due) (i n : ℕ) (num : ℕ) (at : Option ℕ) → i < n → each f i ≡ clear → f i ≡ refuse num at → each f n ≡ refuse num at
 each_found f i zero num at h e d = absurd (omega arith)
 each_found f i (suc n) num at h e d =
     by_cases (ℕ_discrete i n)
@@ -105,7 +104,7 @@ each_found f i (suc n) num at h e d =
     (λ ne. rw (each_found f i n num at (omega arith) e d))
 
 -- and it was found at such a place
-pub each_refuse : (f : ℕ → Due) (n : ℕ) (num : ℕ) (at : Place) → each f n ≡ refuse num at → (k : ℕ) × (k < n) × (each f k ≡ clear) × (f k ≡ refuse num at)
+pub each_refuse : (f : ℕ → Due) (n : ℕ) (num : ℕ) (at : Option ℕ) → each f n ≡ refuse num at → (k : ℕ) × (k < n) × (each f k ≡ clear) × (f k ≡ refuse num at)
 each_refuse f zero num at e = let z : ◌≡◌ {A = ℕ} 0 1 = cc in absurd (omega arith)
 each_refuse f (suc n) num at e =
     ⊎_elim

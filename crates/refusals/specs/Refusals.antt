@@ -1,12 +1,8 @@
 -- The rules' table of refusals, rows of checks, and the limits. Assumes nothing: these are definitions.
-use Rattle.std.specs.Prelude.{Bool, true, false, ◌||◌, ℕ, zero, suc}
+use Rattle.std.specs.Prelude.{Bool, true, false, ◌||◌, ℕ, zero, suc, Option, None, Some, Result, Ok, Err, ⊤}
 use Rattle.refusals.specs.declared.Refusal.{Refusal}
 use Rattle.refusals.specs.declared.Refusal.TheVariants.{Empty, NoBase, TooLong, TooShort, Unopened, NoBracket}
 use Rattle.refusals.specs.declared.Refusal.TheVariants.{Unclosed, Unsound, Unequal, Outside, Unbelievable}
-use Rattle.refusals.specs.declared.Place.{Place}
-use Rattle.refusals.specs.declared.Place.TheVariants.{Nowhere, At}
-use Rattle.refusals.specs.declared.Verdict.{Verdict}
-use Rattle.refusals.specs.declared.Verdict.TheVariants.{Clear, Refuse}
 
 -- the most bases that a fold takes
 abbrev pub fold_limit : ℕ
@@ -35,26 +31,26 @@ number Outside = 10
 number Unbelievable = 11
 
 -- the place that the table returns with it
-abbrev pub place : Refusal → Place
-place Empty = Nowhere
-place (NoBase k) = At k
-place TooLong = Nowhere
-place TooShort = Nowhere
-place (Unopened k) = At k
-place (NoBracket k) = At k
-place (Unclosed k) = At k
-place (Unsound k) = At k
-place Unequal = Nowhere
-place Outside = Nowhere
-place Unbelievable = Nowhere
+abbrev pub place : Refusal → Option ℕ
+place Empty = None
+place (NoBase k) = Some k
+place TooLong = None
+place TooShort = None
+place (Unopened k) = Some k
+place (NoBracket k) = Some k
+place (Unclosed k) = Some k
+place (Unsound k) = Some k
+place Unequal = None
+place Outside = None
+place Unbelievable = None
 
 -- what a call is due: nothing, or the refusal with a number and a place of the table
 pub data Due : Type 0 where
   clear : Due
-  refuse : ℕ → Place → Due
+  refuse : ℕ → Option ℕ → Due
 
 -- one check: where its test is true, that number and place are due
-abbrev pub check : Bool → ℕ → Place → Due
+abbrev pub check : Bool → ℕ → Option ℕ → Due
 check true num at = refuse num at
 check false num at = clear
 
@@ -77,6 +73,6 @@ some f (suc n) = some f n || f n
 abbrev pub due_of : Refusal → Due
 due_of q = refuse (number q) (place q)
 
-abbrev pub told : Verdict → Due
-told Clear = clear
-told (Refuse q) = due_of q
+abbrev pub told : Result ⊤ Refusal → Due
+told (Ok _) = clear
+told (Err q) = due_of q

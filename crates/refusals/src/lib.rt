@@ -1,11 +1,11 @@
-// Refusals: what a call may say no with, what a row of checks comes to, and how much the calls take.
+// Refusals: what a call may say no with, and how much the calls take. A row of checks comes to `Ok`, or to the first refusal that it finds.
 // The numbers and places are those of the table in docs/RULES.md; specs/Refusals.antt has them as definitions.
 #![tactic(auto)]
 
 ghost use Rattle.std.specs.Prelude.{◌≡◌};
 ghost use Rattle.refusals.specs.Refusals.{number, place};
 
-#[derive(Clone, Copy)]
+#[derive(Clone, Copy, Debug, PartialEq, Eq)]
 pub enum Refusal {
     // The sequence is empty, or an erase would empty it.
     Empty,
@@ -31,20 +31,6 @@ pub enum Refusal {
     Unbelievable,
 }
 
-// Where a refusal points.
-#[derive(Clone, Copy)]
-pub enum Place {
-    Nowhere,
-    At(usize),
-}
-
-// What a row of checks comes to: nothing was found, or the first thing that was.
-#[derive(Clone, Copy)]
-pub enum Verdict {
-    Clear,
-    Refuse(Refusal),
-}
-
 // The most bases that a fold takes.
 pub const FOLD_LIMIT: usize = 256;
 
@@ -54,38 +40,42 @@ pub const STRUCTURE_LIMIT: usize = 4096;
 // The most bases that the program folds.
 pub const PROGRAM_LIMIT: usize = 80;
 
-pub fn number_of(refusal: Refusal) -> u32
-    ensures { result ≡ number refusal }
-{
-    match refusal {
-        Refusal::Empty => 1,
-        Refusal::NoBase(_) => 2,
-        Refusal::TooLong => 3,
-        Refusal::TooShort => 4,
-        Refusal::Unopened(_) => 5,
-        Refusal::NoBracket(_) => 6,
-        Refusal::Unclosed(_) => 7,
-        Refusal::Unsound(_) => 8,
-        Refusal::Unequal => 9,
-        Refusal::Outside => 10,
-        Refusal::Unbelievable => 11,
+impl Refusal {
+    // The number that the table has for it.
+    pub fn number(self) -> u32
+        ensures { result ≡ number self }
+    {
+        match self {
+            Refusal::Empty => 1,
+            Refusal::NoBase(_) => 2,
+            Refusal::TooLong => 3,
+            Refusal::TooShort => 4,
+            Refusal::Unopened(_) => 5,
+            Refusal::NoBracket(_) => 6,
+            Refusal::Unclosed(_) => 7,
+            Refusal::Unsound(_) => 8,
+            Refusal::Unequal => 9,
+            Refusal::Outside => 10,
+            Refusal::Unbelievable => 11,
+        }
     }
-}
 
-pub fn place_of(refusal: Refusal) -> Place
-    ensures { result ≡ place refusal }
-{
-    match refusal {
-        Refusal::Empty => Place::Nowhere,
-        Refusal::NoBase(k) => Place::At(k),
-        Refusal::TooLong => Place::Nowhere,
-        Refusal::TooShort => Place::Nowhere,
-        Refusal::Unopened(k) => Place::At(k),
-        Refusal::NoBracket(k) => Place::At(k),
-        Refusal::Unclosed(k) => Place::At(k),
-        Refusal::Unsound(k) => Place::At(k),
-        Refusal::Unequal => Place::Nowhere,
-        Refusal::Outside => Place::Nowhere,
-        Refusal::Unbelievable => Place::Nowhere,
+    // The place where it points, if it does.
+    pub fn place(self) -> Option<usize>
+        ensures { result ≡ place self }
+    {
+        match self {
+            Refusal::NoBase(k) => Some(k),
+            Refusal::Unopened(k) => Some(k),
+            Refusal::NoBracket(k) => Some(k),
+            Refusal::Unclosed(k) => Some(k),
+            Refusal::Unsound(k) => Some(k),
+            Refusal::Empty => None,
+            Refusal::TooLong => None,
+            Refusal::TooShort => None,
+            Refusal::Unequal => None,
+            Refusal::Outside => None,
+            Refusal::Unbelievable => None,
+        }
     }
 }
