@@ -10,47 +10,55 @@ use lib.Dec.{eqb, lit<}
 use lib.ListN.{get_or}
 use Rattle.bases.specs.declared.Base.{Base}
 use Rattle.bases.specs.declared.Base.TheVariants.{A, C, G, U}
-use Rattle.bases.specs.declared.Reading.{Reading}
-use Rattle.bases.specs.declared.Reading.TheVariants.{Is, Nothing}
+use Rattle.std.proofs.Common.{Option, Some, None}
 use Rattle.bases.specs.Bases.{letter_of, Spelt, kept, refused, told, reads, is_refused, letter_in, no_base, normal, is_kept, can_pair, pair_index}
 
 -- ---- reading
 
 -- a byte that is read as a base is one, and that base's letter is the one that is kept
-pub read_is : {r : Reading} {b : Base} (x : ℕ) → told r ≡ reads x → r ≡ Is b → no_base x ≡ false
+pub read_is : {r : Option Base} {b : Base} (x : ℕ) → told r ≡ reads x → r ≡ Some b → no_base x ≡ false
 unfolding no_base
 read_is x h e = ap is_refused (sym h ∙ ap told e)
 
-pub read_letter : {r : Reading} {b : Base} (x : ℕ) → told r ≡ reads x → r ≡ Is b → letter_of b ≡ normal x
+pub read_letter : {r : Option Base} {b : Base} (x : ℕ) → told r ≡ reads x → r ≡ Some b → letter_of b ≡ normal x
 unfolding normal
 read_letter x h e = sym (ap letter_in (sym h ∙ ap told e))
 
-pub read_none : {r : Reading} (x : ℕ) → told r ≡ reads x → r ≡ Nothing → no_base x ≡ true
+pub read_none : {r : Option Base} (x : ℕ) → told r ≡ reads x → r ≡ None → no_base x ≡ true
 unfolding no_base
 read_none x h e = ap is_refused (sym h ∙ ap told e)
 
-pub read_nothing : {r : Reading} (x : ℕ) → told r ≡ reads x → r ≡ Nothing → normal x ≡ 0
+pub read_nothing : {r : Option Base} (x : ℕ) → told r ≡ reads x → r ≡ None → normal x ≡ 0
 unfolding normal
 read_nothing x h e = ap letter_in (sym h ∙ ap told e)
+
+-- and it is kept as it is where it is that base's letter
+pub kept_some : {r : Option Base} {b : Base} (x : ℕ) → told r ≡ reads x → r ≡ Some b → is_kept x ≡ eqb (letter_of b) x
+unfolding is_kept
+kept_some x h e = simp (read_is _ h e, ← read_letter _ h e)
+
+pub kept_none : {r : Option Base} (x : ℕ) → told r ≡ reads x → r ≡ None → is_kept x ≡ false
+unfolding is_kept
+kept_none x h e = simp (read_none _ h e)
 
 -- the base of a letter, and the answer that says so
 base_of : ℕ → Base
 base_of y = cond (eqb y 65) A (cond (eqb y 67) C (cond (eqb y 71) G U))
 
-reading_of : Spelt → Reading
-reading_of (kept y) = Is (base_of y)
-reading_of (refused num) = Nothing
+reading_of : Spelt → Option Base
+reading_of (kept y) = Some (base_of y)
+reading_of (refused num) = None
 
-told_back : (r : Reading) → reading_of (told r) ≡ r
+told_back : (r : Option Base) → reading_of (told r) ≡ r
 unfolding reading_of base_of
-told_back (Is A) = refl
-told_back (Is C) = refl
-told_back (Is G) = refl
-told_back (Is U) = refl
-told_back Nothing = refl
+told_back (Some A) = refl
+told_back (Some C) = refl
+told_back (Some G) = refl
+told_back (Some U) = refl
+told_back None = refl
 
 -- `read_base` has one permitted answer
-pub one_reading : {s : Spelt} (r r' : Reading) → told r ≡ s → told r' ≡ s → r ≡ r'
+pub one_reading : {s : Spelt} (r r' : Option Base) → told r ≡ s → told r' ≡ s → r ≡ r'
 one_reading r r' p q = sym (told_back r) ∙ ap reading_of (p ∙ sym q) ∙ told_back r'
 
 -- 0, which stands past the end of a list, is no base

@@ -1,9 +1,7 @@
 -- Bases: which byte is kept as which letter, the six pairs and their order, purines. Assumes nothing: these are definitions.
-use Rattle.std.specs.Prelude.{Bool, true, false, cond, not, ◌||◌, ◌&&◌, ℕ, eqb}
+use Rattle.std.specs.Prelude.{Bool, true, false, cond, not, ◌||◌, ◌&&◌, ℕ, eqb, Option, None, Some}
 use Rattle.bases.specs.declared.Base.{Base}
 use Rattle.bases.specs.declared.Base.TheVariants.{A, C, G, U}
-use Rattle.bases.specs.declared.Reading.{Reading}
-use Rattle.bases.specs.declared.Reading.TheVariants.{Is, Nothing}
 
 -- the letter of a base
 abbrev pub letter_of : Base → ℕ
@@ -18,9 +16,9 @@ pub data Spelt : Type 0 where
   refused : ℕ → Spelt
 
 -- an answer in those terms: no base is refusal 2
-abbrev pub told : Reading → Spelt
-told (Is b) = kept (letter_of b)
-told Nothing = refused 2
+abbrev pub told : Option Base → Spelt
+told (Some b) = kept (letter_of b)
+told None = refused 2
 
 -- a/A, c/C, g/G, u/U, t/T are kept as A, C, G, U, U
 unfoldable pub reads : ℕ → Spelt

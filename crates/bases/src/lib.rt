@@ -5,7 +5,7 @@
 ghost use Rattle.std.specs.Prelude.{◌≡◌};
 ghost use Rattle.bases.specs.Bases.{told, reads, letter_of, is_kept, can_pair, pair_index, is_purine};
 
-#[derive(Clone, Copy)]
+#[derive(Clone, Copy, Debug, PartialEq, Eq)]
 pub enum Base {
     A,
     C,
@@ -13,29 +13,17 @@ pub enum Base {
     U,
 }
 
-// What reading a byte finds: a base, or that there is none (refusal 2).
-#[derive(Clone, Copy)]
-pub enum Reading {
-    Is(Base),
-    Nothing,
-}
-
+// The base of a byte; none is refusal 2.
 #[tactic(auto, unfolding(crate::specs::Bases::reads))]
-pub fn read_base(byte: u8) -> Reading
+pub fn read_base(byte: u8) -> Option<Base>
     ensures { told result ≡ reads byte }
 {
     match byte {
-        65 => Reading::Is(Base::A),
-        97 => Reading::Is(Base::A),
-        67 => Reading::Is(Base::C),
-        99 => Reading::Is(Base::C),
-        71 => Reading::Is(Base::G),
-        103 => Reading::Is(Base::G),
-        85 => Reading::Is(Base::U),
-        117 => Reading::Is(Base::U),
-        84 => Reading::Is(Base::U),
-        116 => Reading::Is(Base::U),
-        _ => Reading::Nothing,
+        b'A' | b'a' => Some(Base::A),
+        b'C' | b'c' => Some(Base::C),
+        b'G' | b'g' => Some(Base::G),
+        b'U' | b'u' | b'T' | b't' => Some(Base::U),
+        _ => None,
     }
 }
 
@@ -44,22 +32,22 @@ pub fn letter(base: Base) -> u8
     ensures { result ≡ letter_of base }
 {
     match base {
-        Base::A => 65,
-        Base::C => 67,
-        Base::G => 71,
-        Base::U => 85,
+        Base::A => b'A',
+        Base::C => b'C',
+        Base::G => b'G',
+        Base::U => b'U',
     }
 }
 
 // Whether a byte is the letter that is kept of a base: asked of reading, so that there is one list of letters.
+#[tactic(auto, using(crate::proofs::Laws::kept_some, crate::proofs::Laws::kept_none))]
 pub fn is_kept(byte: u8) -> bool
     ensures { result ≡ is_kept byte }
 {
-    let reading = read_base(byte);
-    let Reading::Is(base) = reading else {
-        return false;
-    };
-    letter(base) == byte
+    match read_base(byte) {
+        Some(base) => letter(base) == byte,
+        None => false,
+    }
 }
 
 // Whether two kept letters may pair: AU, UA, GC, CG, GU, UG. No other bytes do.
@@ -68,38 +56,27 @@ pub fn can_pair(a: u8, b: u8) -> bool
     ensures { result ≡ can_pair a b }
 {
     match a {
-        65 => b == 85,
-        67 => b == 71,
-        71 => b == 67 || b == 85,
-        85 => b == 65 || b == 71,
+        b'A' => b == b'U',
+        b'C' => b == b'G',
+        b'G' => b == b'C' || b == b'U',
+        b'U' => b == b'A' || b == b'G',
         _ => false,
     }
 }
 
-// The number of a pair in the order AU UA GC CG GU UG, by which the stack figures are laid out; 6 for bytes that don't pair.
+// The number of a pair in the order AU UA GC CG GU UG, by which the stack figures are laid out; 6 for bytes that don't pair,
+// since `ykm_pair_index` answers so, and a function that answers every two bytes stays one.
 #[tactic(auto, unfolding(crate::specs::Bases::pair_index))]
 pub fn pair_index(a: u8, b: u8) -> usize
     ensures { result ≡ pair_index a b }
 {
-    match a {
-        65 => match b {
-            85 => 0,
-            _ => 6,
-        },
-        85 => match b {
-            65 => 1,
-            71 => 5,
-            _ => 6,
-        },
-        71 => match b {
-            67 => 2,
-            85 => 4,
-            _ => 6,
-        },
-        67 => match b {
-            71 => 3,
-            _ => 6,
-        },
+    match (a, b) {
+        (b'A', b'U') => 0,
+        (b'U', b'A') => 1,
+        (b'G', b'C') => 2,
+        (b'C', b'G') => 3,
+        (b'G', b'U') => 4,
+        (b'U', b'G') => 5,
         _ => 6,
     }
 }
@@ -109,5 +86,5 @@ pub fn pair_index(a: u8, b: u8) -> usize
 pub fn is_purine(byte: u8) -> bool
     ensures { result ≡ is_purine byte }
 {
-    byte == 65 || byte == 71
+    byte == b'A' || byte == b'G'
 }
