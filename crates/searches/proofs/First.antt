@@ -5,36 +5,35 @@ use mathlib.Core.Bool.{Bool, true, false, cond}
 use Prim.Native.Nat.{ℕ, zero, suc, ◌+◌, ◌-◌, ◌<◌, ◌≤◌}
 use native.Mathlib.Decide.{ℕ_discrete}
 use native.Mathlib.Omega.{arith}
-use Rattle.searches.specs.declared.Found.{Found}
-use Rattle.searches.specs.declared.Found.TheVariants.{At, Nothing}
+use Rattle.std.proofs.Common.{Option, None, Some}
 use Rattle.searches.specs.First.{first_passing}
 
 -- at k, of what is left before j; r is what the test answers there
 module _ (test : ℕ → Bool) where
-  first_none : (k : ℕ) {m : ℕ} → m ≡ 0 → first_passing test k m ≡ Nothing
+  first_none : (k : ℕ) {m : ℕ} → m ≡ 0 → first_passing test k m ≡ None
   unfolding first_passing
   first_none k e = rw e
 
-  first_more : (k : ℕ) {m l : ℕ} → m ≡ suc l → first_passing test k m ≡ cond (test k) (At k) (first_passing test (k + 1) l)
+  first_more : (k : ℕ) {m l : ℕ} → m ≡ suc l → first_passing test k m ≡ cond (test k) (Some k) (first_passing test (k + 1) l)
   unfolding first_passing
   first_more k e = rw e
 
-  pub first_end : (k j : ℕ) → j ≤ k → first_passing test k (j - k) ≡ Nothing
+  pub first_end : (k j : ℕ) → j ≤ k → first_passing test k (j - k) ≡ None
   first_end k j h = first_none k (omega arith)
 
   module _ (k j : ℕ) (h : k < j) {r : Bool} (e : r ≡ test k) where
-    pub first_here : r ≡ true → first_passing test k (j - k) ≡ At k
+    pub first_here : r ≡ true → first_passing test k (j - k) ≡ Some k
     first_here q = first_more k {l = j - (k + 1)} (omega arith) ∙ simp (← e, q)
 
     pub first_next : r ≡ false → first_passing test k (j - k) ≡ first_passing test (k + 1) (j - (k + 1))
     first_next q = first_more k {l = j - (k + 1)} (omega arith) ∙ simp (← e, q)
 
 -- what was found passes, and is among the n numbers from k on; where nothing was, none passes
-pub data Sought (test : ℕ → Bool) (k n : ℕ) : Found → Type 0 where
-  hit : {x : ℕ} → k ≤ x → x < k + n → test x ≡ true → Sought test k n (At x)
-  miss : ((x : ℕ) → k ≤ x → x < k + n → test x ≡ false) → Sought test k n Nothing
+pub data Sought (test : ℕ → Bool) (k n : ℕ) : Option ℕ → Type 0 where
+  hit : {x : ℕ} → k ≤ x → x < k + n → test x ≡ true → Sought test k n (Some x)
+  miss : ((x : ℕ) → k ≤ x → x < k + n → test x ≡ false) → Sought test k n None
 
-sought_next : {test : ℕ → Bool} {k n : ℕ} {f : Found} → test k ≡ false → Sought test (k + 1) n f → Sought test k (suc n) f
+sought_next : {test : ℕ → Bool} {k n : ℕ} {f : Option ℕ} → test k ≡ false → Sought test (k + 1) n f → Sought test k (suc n) f
 sought_next {test} {k} {n} e (hit {x} a c d) = hit {x = x} (omega arith) (omega arith) d
 sought_next {test} {k} {n} e (miss f) = miss (λ x a c. by_cases (ℕ_discrete x k) (λ q. ap test q ∙ e) (λ q. f x (omega arith) (omega arith)))
 
@@ -43,21 +42,21 @@ unfolding first_passing
 sought test zero k = miss (λ x a c. absurd (omega arith))
 sought test (suc n) k = passes (test k) refl (sought test n (k + 1))
   where
-    passes : (r : Bool) → test k ≡ r → Sought test (k + 1) n (first_passing test (k + 1) n) → Sought test k (suc n) (cond r (At k) (first_passing test (k + 1) n))
+    passes : (r : Bool) → test k ≡ r → Sought test (k + 1) n (first_passing test (k + 1) n) → Sought test k (suc n) (cond r (Some k) (first_passing test (k + 1) n))
     passes true e s = hit {x = k} (omega arith) (omega arith) e
     passes false e s = sought_next e s
 
 module _ (test : ℕ → Bool) (n k : ℕ) where
-  pub first_found : (x : ℕ) → first_passing test k n ≡ At x → (k ≤ x) × (x < k + n) × (test x ≡ true)
+  pub first_found : (x : ℕ) → first_passing test k n ≡ Some x → (k ≤ x) × (x < k + n) × (test x ≡ true)
   first_found x e = found (subst (Sought test k n) e (sought test n k))
     where
-      found : Sought test k n (At x) → (k ≤ x) × (x < k + n) × (test x ≡ true)
+      found : Sought test k n (Some x) → (k ≤ x) × (x < k + n) × (test x ≡ true)
       found (hit a c d) = (a, c, d)
 
-  pub first_missed : first_passing test k n ≡ Nothing → (x : ℕ) → k ≤ x → x < k + n → test x ≡ false
+  pub first_missed : first_passing test k n ≡ None → (x : ℕ) → k ≤ x → x < k + n → test x ≡ false
   first_missed e = missed (subst (Sought test k n) e (sought test n k))
     where
-      missed : Sought test k n Nothing → (x : ℕ) → k ≤ x → x < k + n → test x ≡ false
+      missed : Sought test k n None → (x : ℕ) → k ≤ x → x < k + n → test x ≡ false
       missed (miss f) = f
 
 -- a search depends on its test where it looks
@@ -65,4 +64,4 @@ pub first_same : (test test' : ℕ → Bool) (m k : ℕ) → ((x : ℕ) → k �
 unfolding first_passing
 first_same test test' zero k e = refl
 first_same test test' (suc m) k e =
-    λ i. cond (e k (omega arith) (omega arith) i) (At k) (first_same test test' m (k + 1) (λ x p q. e x (omega arith) (omega arith)) i)
+    λ i. cond (e k (omega arith) (omega arith) i) (Some k) (first_same test test' m (k + 1) (λ x p q. e x (omega arith) (omega arith)) i)

@@ -1,9 +1,2 @@
-// Searches along places: what they find. No code: the answer that they share, and its theory.
+// Searches along places: what they find. No code: the theory of the first place that passes a test, an Option.
 #![tactic(auto)]
-
-// The first place that passes, or that none does.
-#[derive(Clone, Copy)]
-pub enum Found {
-    At(usize),
-    Nothing,
-}

@@ -11,9 +11,9 @@ use lib.Dec.{ltb, eqb}
 use lib.ListN.{length}
 use borrow.Author.Tests.{eq-eqb, ne_eqb, eqb-true, lt-ltb, le-ltb, le-leb, lt-leb, ltb-false, not-false}
 use Rattle.refusals.specs.Refusals.{Due, clear, refuse, check, each, structure_limit}
-use Rattle.refusals.specs.declared.Place.{Place}
-use Rattle.refusals.specs.declared.Place.TheVariants.{Nowhere, At}
+use Rattle.std.proofs.Common.{Option, None, Some}
 use Rattle.refusals.proofs.Laws.{check_clear, then_clear, each_clear, clear_each, each_found, some_at, some_false, false_some}
+use Rattle.std.proofs.lemmas.Option.{none-some, same_Some}
 use Rattle.structure.specs.Table.{unpaired, view, Fold, Sound, opens}
 use Rattle.structure.specs.Soundness.{named, over, crossed, unnamed_due, crossed_due, unsound_due, table_due, write_due}
 use Rattle.structure.specs.Walking.{Named, AllNamed, FirstUnnamed, Over, Crossed, crossed_by, Crossing, crossing, Shut, Escapes, escapes, Tells, hop_to}
@@ -50,16 +50,16 @@ module _ (p : ℕ → ℕ) (n : ℕ) where
       (λ q. let b = m.back q in sym (named_is k q b.0 b.1) ∙ eq-eqb (p (p k)) k b.2)
 
   named_check : ℕ → Due
-  named_check k = check (not (named p n k)) 8 (At k)
+  named_check k = check (not (named p n k)) 8 (Some k)
 
   pub all_named : {r : ℕ} → FirstUnnamed p n r → n ≤ r → AllNamed p n
   all_named f h k l = named_true k (f.before k (omega arith))
 
   -- 8 at the first entry that isn't named back
-  pub unnamed_first : {r : ℕ} → FirstUnnamed p n r → r < n → unnamed_due p n ≡ refuse 8 (At r)
+  pub unnamed_first : {r : ℕ} → FirstUnnamed p n r → r < n → unnamed_due p n ≡ refuse 8 (Some r)
   unfolding named_check
   unnamed_first {r} f h =
-      each_found named_check r n 8 (At r) h
+      each_found named_check r n 8 (Some r) h
       (clear_each named_check r (λ k l. rw (f.before k l)))
       (rw (f.here h))
 
@@ -69,31 +69,31 @@ module _ (p : ℕ → ℕ) (n : ℕ) where
 
   -- ---- the walk
   module _ (small : n < unpaired) (all : AllNamed p n) where
-    module _ (lo hi x y : ℕ) (shut : Shut p n lo) (l : lo ≤ x) (h : x < hi) (w : hi ≤ n) (f : Fold p lo x) (e : y ≡ hop_to x (p x) hi) where
+    module _ (lo hi x : ℕ) (shut : Shut p n lo) (l : lo ≤ x) (h : x < hi) (w : hi ≤ n) (f : Fold p lo x) where
       -- a hop that stays inside extends the span that folds
-      pub hop_on : y ≢ 0 → (x < y) × (y ≤ hi) × Fold p lo y
-      hop_on nz = by_cases (ℕ_discrete (p x) unpaired)
-          (λ q. let e' : y ≡ suc x = e ∙ rw (eq-eqb (p x) unpaired q) in
-          (omega arith, omega arith, rw e' (join p f (one p x (omega arith) q) l (omega arith))))
+      pub hop_on : (y : ℕ) → hop_to x (p x) hi ≡ Some y → (x < y) × (y ≤ hi) × Fold p lo y
+      hop_on y e = by_cases (ℕ_discrete (p x) unpaired)
+          (λ q. let e' : suc x ≡ y = same_Some (suc x) y (rw (eq-eqb (p x) unpaired q) at e) in
+          (omega arith, omega arith, rw (← e') (join p f (one p x (omega arith) q) l (omega arith))))
           (λ q. by_cases (dec_lt (p x) x)
-          (λ s. let e' : y ≡ 0 = e ∙ rw (ne_eqb (p x) unpaired q, lt-ltb (p x) x s) in absurd (nz e'))
+          (λ s. absurd (none-some y (rw (ne_eqb (p x) unpaired q, lt-ltb (p x) x s) at e)))
           (λ s. by_cases (dec_lt (p x) hi)
-          (λ t. let e' : y ≡ suc (p x) = e ∙ rw (ne_eqb (p x) unpaired q, le-ltb (p x) x (omega arith), lt-leb hi (p x) t) in
+          (λ t. let e' : suc (p x) ≡ y = same_Some (suc (p x)) y (rw (ne_eqb (p x) unpaired q, le-ltb (p x) x (omega arith), lt-leb hi (p x) t) at e) in
           let b = (all x (omega arith)).back q in
-          (omega arith, omega arith, rw e' (join p f (shut x l (omega arith) (omega arith)) l (omega arith))))
-          (λ t. let e' : y ≡ 0 = e ∙ rw (ne_eqb (p x) unpaired q, le-ltb (p x) x (omega arith), le-leb hi (p x) (omega arith)) in absurd (nz e'))))
+          (omega arith, omega arith, rw (← e') (join p f (shut x l (omega arith) (omega arith)) l (omega arith))))
+          (λ t. absurd (none-some y (rw (ne_eqb (p x) unpaired q, le-ltb (p x) x (omega arith), le-leb hi (p x) (omega arith)) at e)))))
 
       -- and one that can't leaves it
-      pub hop_out : y ≡ 0 → Escapes p lo hi
-      hop_out z = by_cases (ℕ_discrete (p x) unpaired)
-          (λ q. let e' : y ≡ suc x = e ∙ rw (eq-eqb (p x) unpaired q) in absurd (omega arith))
+      pub hop_out : hop_to x (p x) hi ≡ None → Escapes p lo hi
+      hop_out e = by_cases (ℕ_discrete (p x) unpaired)
+          (λ q. absurd (none-some (suc x) (sym (rw (eq-eqb (p x) unpaired q) at e))))
           (λ q. let b = (all x (omega arith)).back q in
           let named_back = b.2 in
           by_cases (dec_lt (p x) x)
           (λ s. escapes x l h q (inl (by_cases (dec_lt (p x) lo) (λ t. t)
           (λ t. let m = f.mate (p x) (omega arith) s (omega arith) in absurd (omega arith)))))
           (λ s. by_cases (dec_lt (p x) hi)
-          (λ t. let e' : y ≡ suc (p x) = e ∙ rw (ne_eqb (p x) unpaired q, le-ltb (p x) x (omega arith), lt-leb hi (p x) t) in absurd (omega arith))
+          (λ t. absurd (none-some (suc (p x)) (sym (rw (ne_eqb (p x) unpaired q, le-ltb (p x) x (omega arith), lt-leb hi (p x) t) at e))))
           (λ t. escapes x l h q (inr (omega arith)))))
 
     -- ---- one level
@@ -154,7 +154,7 @@ module _ (p : ℕ → ℕ) (n : ℕ) where
   over_in a b o = let x = o.right in let y = o.within in let z = o.past in let w = o.pair in (omega arith, omega arith)
 
   crossed_check : ℕ → Due
-  crossed_check k = check (crossed p n k) 8 (At k)
+  crossed_check k = check (crossed p n k) 8 (Some k)
 
   -- no pair that opens below a is crossed by one further right, so none of these is crossed at all
   none_lower : (a : ℕ) → ((j : ℕ) → j < a → ¬ (Crossed p n j)) → each crossed_check a ≡ clear
@@ -164,11 +164,11 @@ module _ (p : ℕ → ℕ) (n : ℕ) where
       rw (over_false j b (λ o. s j l (crossed_by b o)), over_false b j (λ o. let x = o.right in s b (omega arith) (crossed_by j o))))))
 
   -- 8 at the lowest opening position of a crossed pair: the other is further right
-  pub crossed_first : (a : ℕ) → ((j : ℕ) → j < a → ¬ (Crossed p n j)) → Crossed p n a → crossed_due p n ≡ refuse 8 (At a)
+  pub crossed_first : (a : ℕ) → ((j : ℕ) → j < a → ¬ (Crossed p n j)) → Crossed p n a → crossed_due p n ≡ refuse 8 (Some a)
   unfolding crossed_check
   crossed_first a s (crossed_by b o) =
       let i = over_in a b o in
-      each_found crossed_check a n 8 (At a) i.0 (none_lower a s)
+      each_found crossed_check a n 8 (Some a) i.0 (none_lower a s)
       (rw (some_at (λ b. over p n a b || over p n b a) n b i.1 (rw (over_true a b o))))
 
   pub not_all_clear : Crossing p n → ((j : ℕ) → j < n → ¬ (Crossed p n j)) → ⊥
@@ -187,12 +187,12 @@ module _ (p : ℕ → ℕ) (n : ℕ) where
   clear_fold h u v = record {
     fits = h;
     mate = λ k l r q.
-        let named_here = not-false _ (check_clear (not (named p n k)) 8 (At k) (each_clear named_check n u k r)) in
+        let named_here = not-false _ (check_clear (not (named p n k)) 8 (Some k) (each_clear named_check n u k r)) in
         let m = (named_true k named_here).back q in (omega arith, m.0, m.1, m.2);
     plain = λ a b l x y z w.
         let o : Over p n a b = record { right = x; within = y; past = z; pair = w } in
         let i = over_in a b o in
-        let none = check_clear (crossed p n a) 8 (At a) (each_clear crossed_check n v a i.0) in
+        let none = check_clear (crossed p n a) 8 (Some a) (each_clear crossed_check n v a i.0) in
         let here = some_false (λ c. over p n a c || over p n c a) n none b i.1 in
         let there : (over p n a b || over p n b a) ≡ true = rw (over_true a b o) in
         true≢false (sym there ∙ here);
@@ -214,8 +214,8 @@ sound t h e =
 pub table_clear : (t : List ℕ) → table_due t ≡ clear → (length t ≤ structure_limit) × Sound t
 unfolding table_due
 table_clear t e =
-    let c = then_clear (check (ltb structure_limit (length t)) 3 Nowhere) (unsound_due t) e in
-    let h = ltb-false structure_limit (length t) (check_clear (ltb structure_limit (length t)) 3 Nowhere c.0) in
+    let c = then_clear (check (ltb structure_limit (length t)) 3 None) (unsound_due t) e in
+    let h = ltb-false structure_limit (length t) (check_clear (ltb structure_limit (length t)) 3 None c.0) in
     (h, sound t (omega arith) c.1)
 
 -- a sound table that is short enough is due nothing
@@ -225,11 +225,11 @@ clear_table t h f = rw (le-ltb structure_limit (length t) h, sound_clear t f)
 
 -- ---- the room is looked at last
 module _ (t : List ℕ) (room need : ℕ) where
-  pub write_refused : {num : ℕ} {at : Place} → table_due t ≡ refuse num at → write_due t room need ≡ refuse num at
+  pub write_refused : {num : ℕ} {at : Option ℕ} → table_due t ≡ refuse num at → write_due t room need ≡ refuse num at
   unfolding write_due
   write_refused e = rw e
 
-  pub write_short : table_due t ≡ clear → room < need → write_due t room need ≡ refuse 4 Nowhere
+  pub write_short : table_due t ≡ clear → room < need → write_due t room need ≡ refuse 4 None
   unfolding write_due
   write_short e h = rw (e, lt-ltb room need h)
 
@@ -239,4 +239,4 @@ module _ (t : List ℕ) (room need : ℕ) where
 
   pub written_clear : write_due t room need ≡ clear → table_due t ≡ clear
   unfolding write_due
-  written_clear e = (then_clear (table_due t) (check (ltb room need) 4 Nowhere) e).0
+  written_clear e = (then_clear (table_due t) (check (ltb room need) 4 None) e).0

@@ -1,5 +1,6 @@
 -- What a count of openings depends on. Assumes nothing.
-use mathlib.Core.Path.{◌≡◌, ap}
+use mathlib.Core.Bool.{Bool, true, false, cond}
+use mathlib.Core.Path.{◌≡◌, sym, ap, ◌∙◌}
 use mathlib.Core.Logic.{◌≢◌, by_cases}
 use Prim.Native.Nat.{ℕ, zero, suc, ◌+◌, ◌<◌, ◌≤◌}
 use native.Mathlib.Omega.{arith}
@@ -16,6 +17,13 @@ opens_low k v h l = rw (ne_eqb v unpaired (λ e. omega arith), le-ltb k v h)
 
 pub opens_high : (k v : ℕ) → k < v → v ≢ unpaired → opens k v ≡ 1
 opens_high k v h n = rw (ne_eqb v unpaired n, lt-ltb k v h)
+
+-- what the test that a position opens a pair tells of the count
+pub opens_true : {r : Bool} (k v : ℕ) → cond r 1 0 ≡ opens k v → r ≡ true → opens k v ≡ 1
+opens_true k v e t = sym e ∙ ap (λ (b : Bool). cond b 1 0) t
+
+pub opens_false : {r : Bool} (k v : ℕ) → cond r 1 0 ≡ opens k v → r ≡ false → opens k v ≡ 0
+opens_false k v e f = sym e ∙ ap (λ (b : Bool). cond b 1 0) f
 
 -- counts over a span differ alike where the entries are alike
 pub opened_moved : (p q : ℕ → ℕ) (lo hi : ℕ) → lo ≤ hi → ((k : ℕ) → lo ≤ k → k < hi → q k ≡ p k) → opened q hi + opened p lo ≡ opened p hi + opened q lo

@@ -1,5 +1,5 @@
 -- What the functions inside know of a pair table on their way over it. Assumes nothing: these are definitions.
-use Rattle.std.specs.Prelude.{◌≡◌, ◌≢◌, ◌⊎◌, Bool, true, false, cond, ℕ, suc, ◌<◌, ◌≤◌, ltb, leb, eqb}
+use Rattle.std.specs.Prelude.{◌≡◌, ◌≢◌, ◌⊎◌, Bool, true, false, cond, ℕ, suc, ◌<◌, ◌≤◌, ltb, leb, eqb, Option, None, Some}
 use Rattle.structure.specs.Table.{unpaired, Fold}
 use Rattle.structure.specs.Soundness.{named}
 
@@ -45,6 +45,6 @@ pub record Tells (r : Bool) (A B : Type 0) : Type 0 where
   pub holds : r ≡ true → A
   pub fails : r ≡ false → B
 
--- the place after x, whose entry is v, on a walk that jumps over pairs and stays below hi; 0 where it can't
-abbrev pub hop_to : ℕ → ℕ → ℕ → ℕ
-hop_to x v hi = cond (eqb v unpaired) (suc x) (cond (ltb v x) 0 (cond (leb hi v) 0 (suc v)))
+-- the place after x, whose entry is v, on a walk that jumps over pairs and stays below hi; none where it can't
+abbrev pub hop_to : ℕ → ℕ → ℕ → Option ℕ
+hop_to x v hi = cond (eqb v unpaired) (Some (suc x)) (cond (ltb v x) None (cond (leb hi v) None (Some (suc v))))

@@ -1,34 +1,21 @@
 // Structures: pair tables, and the check that one is sound. Knows nothing of folding.
-// A pair table is lent numbers of 16 bits, one a position: its partner, or 65535 where it is unpaired.
+// A pair table is lent numbers of 16 bits, one a position: its partner, or 65535 where it is unpaired. C lends it so,
+// and so no Option stands in it.
 #![tactic(auto)]
 
-ghost use Rattle.std.specs.Prelude.{◌≡◌, ◌+◌, ◌<◌, ◌≤◌, length};
+ghost use Rattle.std.specs.Prelude.{◌≡◌, cond, ◌+◌, ◌<◌, ◌≤◌, length, MatchOption};
 ghost use Rattle.refusals.specs.Refusals.{structure_limit, told, refuse};
-ghost use Rattle.refusals.specs.declared.Place.TheVariants.{At};
 ghost use Rattle.structure.specs.Table.{view, Fold, Sound, opens};
 ghost use Rattle.structure.specs.Soundness.{named, crossed_due, unsound_due, table_due};
 ghost use Rattle.structure.specs.Walking.{AllNamed, FirstUnnamed, Crossed, Crossing, Shut, Escapes, Tells, hop_to};
 
-use refusals::{Refusal, STRUCTURE_LIMIT, Verdict};
+use refusals::{Refusal, STRUCTURE_LIMIT};
 
-// A whole number (positions, pairs or a distance), or the refusal.
-#[derive(Clone, Copy)]
-pub enum Answer {
-    Number(usize),
-    Refused(Refusal),
-}
-
-// 1 where the entry v of position k opens a pair.
-pub fn opening(k: usize, v: u16) -> usize
-    ensures { result ≡ opens k v }
+// Whether the entry v of position k opens a pair.
+pub fn opens(k: usize, v: u16) -> bool
+    ensures { cond result 1 0 ≡ opens k v }
 {
-    if v == 65535 {
-        return 0;
-    }
-    if k < v as usize {
-        return 1;
-    }
-    0
+    v != 65535 && k < v as usize
 }
 
 // Is the entry of k 65535, or a position other than k that names k back?
@@ -37,50 +24,35 @@ fn named_back(table: &[u16], k: usize) -> bool
     ensures { result ≡ named (view table.now) (length table.now) k }
 {
     let v = table[k] as usize;
-    if v == 65535 {
-        return true;
-    }
-    if v < table.len() {
-        if v == k {
-            return false;
-        }
-        let w = table[v] as usize;
-        return w == k;
-    }
-    false
+    v == 65535 || v < table.len() && v != k && table[v] as usize == k
 }
 
-// The first position whose entry is not, or the length.
-fn first_unnamed(table: &[u16]) -> usize
-    ensures { FirstUnnamed (view table.now) (length table.now) result }
+// The first position whose entry is not.
+fn first_unnamed(table: &[u16]) -> Option<usize>
+    ensures { MatchOption result (FirstUnnamed (view table.now) (length table.now) (length table.now))
+        (λ k. (k < length table.now) × FirstUnnamed (view table.now) (length table.now) k) }
 {
-    let mut i: usize = 0;
-    while i < table.len() {
-        let ok = named_back(table, i);
-        if !ok {
-            return i;
+    for i in 0..table.len() {
+        if !named_back(table, i) {
+            return Some(i);
         }
-        i += 1;
     }
-    i
+    None
 }
 
-// The place after x, whose entry is v: a pair that stays below hi is jumped over, and 0 says that it doesn't.
-fn hop(x: usize, v: usize, hi: usize) -> usize
+// The place after x, whose entry is v: a pair that stays below hi is jumped over, and there is none where it doesn't.
+fn hop(x: usize, v: usize, hi: usize) -> Option<usize>
     requires x_bound { x < 65536 }
     requires v_bound { v < 65536 }
     ensures { result ≡ hop_to x v hi }
 {
     if v == 65535 {
-        return x + 1;
+        return Some(x + 1);
     }
-    if v < x {
-        return 0;
+    if v < x || hi <= v {
+        return None;
     }
-    if hi <= v {
-        return 0;
-    }
-    v + 1
+    Some(v + 1)
 }
 
 // Do the positions from lo up to hi pair only with each other? The pairs inside are known to fold, so the walk jumps over them.
@@ -93,10 +65,9 @@ fn walk(table: &[u16], lo: usize, hi: usize) -> bool
 {
     let mut x = lo;
     while x < hi {
-        let y = hop(x, table[x] as usize, hi);
-        if y == 0 {
+        let Some(y) = hop(x, table[x] as usize, hi) else {
             return false;
-        }
+        };
         x = y;
     }
     true
@@ -111,7 +82,7 @@ fn level(table: &[u16], i: usize) -> bool
     ensures { Tells result (Shut (view table.now) (length table.now) i) (Crossing (view table.now) (length table.now)) }
 {
     let v = table[i];
-    if opening(i, v) == 0 {
+    if !opens(i, v) {
         return true;
     }
     walk(table, i + 1, v as usize)
@@ -123,11 +94,8 @@ fn nested(table: &[u16]) -> bool
     requires all_named { AllNamed (view table.now) (length table.now) }
     ensures { Tells result (Sound table.now) (Crossing (view table.now) (length table.now)) }
 {
-    let mut i = table.len();
-    while 0 < i {
-        i -= 1;
-        let ok = level(table, i);
-        if !ok {
+    for i in (0..table.len()).rev() {
+        if !level(table, i) {
             return false;
         }
     }
@@ -145,15 +113,11 @@ fn crossed_at(table: &[u16], a: usize) -> bool
     if n <= end {
         return false;
     }
-    let mut b = a + 1;
-    while b < end {
+    for b in a + 1..end {
         let v = table[b] as usize;
-        if end < v {
-            if v < n {
-                return true;
-            }
+        if end < v && v < n {
+            return true;
         }
-        b += 1;
     }
     false
 }
@@ -162,39 +126,36 @@ fn crossed_at(table: &[u16], a: usize) -> bool
 fn lowest_crossed(table: &[u16]) -> usize
     requires table_len_bound { length table.now ≤ structure_limit }
     requires crossing { Crossing (view table.now) (length table.now) }
-    ensures { crossed_due (view table.now) (length table.now) ≡ refuse 8 (At result) }
+    ensures { crossed_due (view table.now) (length table.now) ≡ refuse 8 (Some result) }
 {
-    let mut a: usize = 0;
-    while a < table.len() {
+    for a in 0..table.len() {
         if crossed_at(table, a) {
             return a;
         }
-        a += 1;
     }
-    a
+    unreachable!()
 }
 
 // 8 where the table is unsound, with the place.
-pub fn unsound(table: &[u16]) -> Verdict
+pub fn unsound(table: &[u16]) -> Result<(), Refusal>
     requires { length table.now ≤ structure_limit }
     ensures { told result ≡ unsound_due table.now }
 {
-    let k = first_unnamed(table);
-    if k < table.len() {
-        return Verdict::Refuse(Refusal::Unsound(k));
+    if let Some(k) = first_unnamed(table) {
+        return Err(Refusal::Unsound(k));
     }
     if nested(table) {
-        return Verdict::Clear;
+        return Ok(());
     }
-    Verdict::Refuse(Refusal::Unsound(lowest_crossed(table)))
+    Err(Refusal::Unsound(lowest_crossed(table)))
 }
 
 // 3 where the table is too long, or 8.
-pub fn verify(table: &[u16]) -> Verdict
+pub fn verify(table: &[u16]) -> Result<(), Refusal>
     ensures { told result ≡ table_due table.now }
 {
     if STRUCTURE_LIMIT < table.len() {
-        return Verdict::Refuse(Refusal::TooLong);
+        return Err(Refusal::TooLong);
     }
     unsound(table)
 }

@@ -10,11 +10,7 @@ pub fn clear(pairs: &mut [u16], n: usize)
     requires { n ≤ length pairs.old }
     ensures { pairs.new ≡ cleared n pairs.old }
 {
-    let mut k = 0;
-    while k < n {
-        pairs[k] = 65535;
-        k += 1;
-    }
+    pairs[..n].fill(65535);
 }
 
 // Writes that i and j pair.

@@ -1,12 +1,9 @@
 -- `structure::crossed_at` meets its contract. The loop's invariant: no pair that opens before `b` crosses. Assumes nothing.
-use Prim.Native.Nat.{ℕ, ◌<◌, ◌-◌}
+use Prim.Native.Nat.{ℕ, ◌<◌}
 use lib.ListN.{length}
 use Rattle.structure.specs.Walking.{Over}
 use Rattle.structure.specs.Table.{view}
 use Rattle.structure.proofs.crossed_at.Given as goal
 
 abbrev pub invariant-loop-b : goal.invariant-loop-b
-invariant-loop-b l = (l.a < l.b) × ((k : ℕ) → k < l.b → Over (view l.table) (length l.table) l.a k → ⊥)
-
-abbrev pub decreases-loop-b : goal.decreases-loop-b
-decreases-loop-b l = l.end - l.b
+invariant-loop-b l = (k : ℕ) → k < l.b → Over (view l.table) (length l.table) l.a k → ⊥

@@ -1,27 +1,27 @@
 -- `structure::level` meets its contract: the walk inside the pair that opens at `i` folds, and so does the pair; or its escape is a
 -- crossing. Assumes nothing.
 use mathlib.Core.Logic.{◌≢◌}
-use mathlib.Core.Path.{sym, ◌∙◌}
 use native.Mathlib.Omega.{arith}
 use lib.ListN.{length}
 use Rattle.structure.specs.Table.{view, opens}
 use Rattle.structure.proofs.Checking.{tells_true, tells_map, shut_closed, shut_open, opens_in, crosses}
+use Rattle.structure.proofs.Counts.{opens_true, opens_false}
 use Rattle.structure.proofs.level.Goals as goal
 
-pub returns-then-opening-eq0 : goal.returns-then-opening-eq0
-returns-then-opening-eq0 c =
-    tells_true (shut_closed (view c.args.table.now) (length c.args.table.now) (omega arith) c.requires.all_named c.args.i c.requires.i_in_bounds (sym c.opening.ensures ∙ c.if-opening-eq0.true) c.requires.shut)
+pub returns-then-not-opens : goal.returns-then-not-opens
+returns-then-not-opens c =
+    tells_true (shut_closed (view c.args.table.now) (length c.args.table.now) (omega arith) c.requires.all_named c.args.i c.requires.i_in_bounds (opens_false c.args.i (view c.args.table.now c.args.i) c.opens.ensures c.if-not-opens.true) c.requires.shut)
 
 pub overflow_cast-v : goal.overflow_cast-v
 overflow_cast-v c = omega (arith, c.type_inv.table c.args.i)
 
 pub walk-requires : goal.walk-requires
 walk-requires c =
-    let w = opens_in (view c.args.table.now) (length c.args.table.now) (omega arith) c.requires.all_named c.args.i c.requires.i_in_bounds (λ z. c.if-opening-eq0.false (c.opening.ensures ∙ z)) in record { table_len_bound = c.requires.table_len_bound; lo_le_hi = (omega (arith, w.0), omega (arith, w.1)); all_named = c.requires.all_named; shut = c.requires.shut }
+    let w = opens_in (view c.args.table.now) (length c.args.table.now) (omega arith) c.requires.all_named c.args.i c.requires.i_in_bounds (λ z. omega (arith, opens_true c.args.i (view c.args.table.now c.args.i) c.opens.ensures c.if-not-opens.false)) in record { table_len_bound = c.requires.table_len_bound; lo_le_hi = (omega (arith, w.0), omega (arith, w.1)); all_named = c.requires.all_named; shut = c.requires.shut }
 
 pub returns : goal.returns
 returns c =
-    let opens-here : opens c.args.i (view c.args.table.now c.args.i) ≢ 0 = λ q. c.if-opening-eq0.false (c.opening.ensures ∙ q) in
+    let opens-here : opens c.args.i (view c.args.table.now c.args.i) ≢ 0 = λ z. omega (arith, opens_true c.args.i (view c.args.table.now c.args.i) c.opens.ensures c.if-not-opens.false) in
     tells_map
     (shut_open (view c.args.table.now) (length c.args.table.now) (omega arith) c.requires.all_named c.args.i c.requires.i_in_bounds opens-here c.requires.shut)
     (crosses (view c.args.table.now) (length c.args.table.now) (omega arith) c.requires.all_named c.args.i c.requires.i_in_bounds opens-here)

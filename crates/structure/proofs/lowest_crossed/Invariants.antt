@@ -1,13 +1,10 @@
 -- `structure::lowest_crossed` meets its contract. The loop's invariant: no pair passed is crossed by one further right. It ends
 -- in the loop, for a crossing is known to exist. Assumes nothing.
-use Prim.Native.Nat.{ℕ, ◌≤◌, ◌<◌, ◌-◌}
+use Prim.Native.Nat.{ℕ, ◌<◌}
 use lib.ListN.{length}
 use Rattle.structure.specs.Walking.{Crossed}
 use Rattle.structure.specs.Table.{view}
 use Rattle.structure.proofs.lowest_crossed.Given as goal
 
 abbrev pub invariant-loop-a : goal.invariant-loop-a
-invariant-loop-a l = (l.a ≤ length l.table) × ((j : ℕ) → j < l.a → Crossed (view l.table) (length l.table) j → ⊥)
-
-abbrev pub decreases-loop-a : goal.decreases-loop-a
-decreases-loop-a l = length l.table - l.a
+invariant-loop-a l = (j : ℕ) → j < l.a → Crossed (view l.table) (length l.table) j → ⊥

@@ -7,15 +7,15 @@ use Rattle.structure.proofs.nested.Goals as goal
 pub loop-i-init : goal.loop-i-init
 loop-i-init c = (omega arith, λ x l o h. absurd (omega arith))
 
-pub level-ok-requires : goal.level-ok-requires
-level-ok-requires c =
+pub level-requires : goal.level-requires
+level-requires c =
     record { table_len_bound = omega arith; i_in_bounds = omega arith; all_named = c.requires.all_named; shut = λ x h. c.loop-i.invariant.1 x (omega arith) }
 
-pub returns-then-not-ok : goal.returns-then-not-ok
-returns-then-not-ok c = tells_false (c.level-ok.ensures.fails c.if-not-ok.true)
+pub returns-then-not-level : goal.returns-then-not-level
+returns-then-not-level c = tells_false (c.level.ensures.fails c.if-not-level.true)
 
 pub loop-i-preserved : goal.loop-i-preserved
-loop-i-preserved c = (omega arith, c.level-ok.ensures.holds c.if-not-ok.false)
+loop-i-preserved c = (omega arith, c.level.ensures.holds c.if-not-level.false)
 
 pub walk-requires : goal.walk-requires
 walk-requires c =

@@ -1,4 +1,4 @@
-use mathlib.Core.Path.{◌≡◌}
+use mathlib.Core.Path.{◌≡◌, sym, ◌∙◌}
 use native.Mathlib.Omega.{arith}
 use lib.ListN.{length}
 use Rattle.structure.specs.Table.{view}
@@ -9,25 +9,25 @@ use Rattle.structure.proofs.walk.Goals as goal
 pub loop-x-init : goal.loop-x-init
 loop-x-init c = (omega arith, omega arith, empty _ _ (omega arith))
 
-pub hop-y-requires : goal.hop-y-requires
-hop-y-requires c =
+pub hop-requires : goal.hop-requires
+hop-requires c =
     record { x_bound = omega (arith, c.type_inv.table c.loop-x.x); v_bound = omega (arith, c.type_inv.table c.loop-x.x) }
 
-pub returns-then-y-eq0 : goal.returns-then-y-eq0
-returns-then-y-eq0 c =
-    tells_false (hop_out (view c.args.table.now) (length c.args.table.now) (omega arith) c.requires.all_named c.args.lo c.args.hi c.loop-x.x c.hop-y.result
-    c.requires.shut c.loop-x.invariant.0 (omega arith) c.requires.lo_le_hi.1 c.loop-x.invariant.2 c.hop-y.ensures c.if-y-eq0.true)
+pub returns-in_default : goal.returns-in_default
+returns-in_default c =
+    tells_false (hop_out (view c.args.table.now) (length c.args.table.now) (omega arith) c.requires.all_named c.args.lo c.args.hi c.loop-x.x
+    c.requires.shut c.loop-x.invariant.0 (omega arith) c.requires.lo_le_hi.1 c.loop-x.invariant.2 (sym c.hop.ensures ∙ c.in_default.is))
 
 pub loop-x-smaller : goal.loop-x-smaller
 loop-x-smaller c =
-    let w = hop_on (view c.args.table.now) (length c.args.table.now) (omega arith) c.requires.all_named c.args.lo c.args.hi c.loop-x.x c.hop-y.result
-    c.requires.shut c.loop-x.invariant.0 (omega arith) c.requires.lo_le_hi.1 c.loop-x.invariant.2 c.hop-y.ensures c.if-y-eq0.false in
+    let w = hop_on (view c.args.table.now) (length c.args.table.now) (omega arith) c.requires.all_named c.args.lo c.args.hi c.loop-x.x
+    c.requires.shut c.loop-x.invariant.0 (omega arith) c.requires.lo_le_hi.1 c.loop-x.invariant.2 c.in-Some.y (sym c.hop.ensures ∙ c.in-Some.is) in
     omega (arith, w.0, w.1)
 
 pub loop-x-preserved : goal.loop-x-preserved
 loop-x-preserved c =
-    let w = hop_on (view c.args.table.now) (length c.args.table.now) (omega arith) c.requires.all_named c.args.lo c.args.hi c.loop-x.x c.hop-y.result
-    c.requires.shut c.loop-x.invariant.0 (omega arith) c.requires.lo_le_hi.1 c.loop-x.invariant.2 c.hop-y.ensures c.if-y-eq0.false in
+    let w = hop_on (view c.args.table.now) (length c.args.table.now) (omega arith) c.requires.all_named c.args.lo c.args.hi c.loop-x.x
+    c.requires.shut c.loop-x.invariant.0 (omega arith) c.requires.lo_le_hi.1 c.loop-x.invariant.2 c.in-Some.y (sym c.hop.ensures ∙ c.in-Some.is) in
     (omega (arith, w.0), w.1, w.2)
 
 pub returns : goal.returns
