@@ -10,7 +10,8 @@ use lib.Dec.{eqb, lit<}
 use lib.ListN.{get_or}
 use Rattle.bases.specs.declared.Base.{Base}
 use Rattle.bases.specs.declared.Base.TheVariants.{A, C, G, U}
-use Rattle.std.proofs.Common.{Option, Some, None}
+use Rattle.std.proofs.Common.{Option, Some, None, MatchOption}
+use Rattle.std.specs.Option.{is_some}
 use Rattle.bases.specs.Bases.{letter_of, Spelt, kept, refused, told, reads, is_refused, letter_in, no_base, normal, is_kept, can_pair, pair_index}
 
 -- ---- reading
@@ -31,6 +32,18 @@ read_none x h e = ap is_refused (sym h ∙ ap told e)
 pub read_nothing : {r : Option Base} (x : ℕ) → told r ≡ reads x → r ≡ None → normal x ≡ 0
 unfolding normal
 read_nothing x h e = ap letter_in (sym h ∙ ap told e)
+
+-- a byte is no base where none is read
+pub read_tests : (r : Option Base) (x : ℕ) → told r ≡ reads x → no_base x ≡ not (is_some r)
+unfolding no_base
+read_tests (Some b) x h = ap is_refused (sym h)
+read_tests None x h = ap is_refused (sym h)
+
+-- the letter of the base that is read, or 0
+pub read_normal : (r : Option Base) (x v : ℕ) → told r ≡ reads x → MatchOption r (v ≡ 0) (λ b. v ≡ letter_of b) → v ≡ normal x
+unfolding normal
+read_normal (Some b) x v h e = e ∙ ap letter_in h
+read_normal None x v h e = e ∙ ap letter_in h
 
 -- and it is kept as it is where it is that base's letter
 pub kept_some : {r : Option Base} {b : Base} (x : ℕ) → told r ≡ reads x → r ≡ Some b → is_kept x ≡ eqb (letter_of b) x

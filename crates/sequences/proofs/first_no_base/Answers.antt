@@ -1,28 +1,28 @@
-use Rattle.sequences.specs.Sequences.{base_due, bases_due}
-use Rattle.structure.specs.Table.{view}
-use Rattle.bases.proofs.Laws.{read_is, read_none}
-use Rattle.refusals.specs.declared.Place.TheVariants.{At}
-use Rattle.refusals.proofs.Laws.{each_step, each_found}
-use Rattle.refusals.specs.Refusals.{each}
-use lib.ListN.{length}
+use mathlib.Core.Bool.{not}
+use mathlib.Core.Path.{◌≡◌, sym, ap, ◌∙◌}
 use native.Mathlib.Omega.{arith}
-use mathlib.Core.Path.{◌≡◌, refl, sym, ap, ◌∙◌}
+use lib.ListN.{length}
+use Rattle.std.proofs.Common.{Some}
+use Rattle.refusals.specs.Refusals.{each}
+use Rattle.refusals.proofs.Laws.{each_step, each_found}
+use Rattle.bases.proofs.Laws.{read_tests}
+use Rattle.structure.specs.Table.{view}
+use Rattle.sequences.specs.Sequences.{base_due, bases_due}
 use Rattle.sequences.proofs.first_no_base.Goals as goal
 
-pub loop-k-init : goal.loop-k-init
-loop-k-init c = (omega arith, refl)
-
-pub returns-in_default : goal.returns-in_default
+pub returns-then-is_none : goal.returns-then-is_none
 unfolding bases_due
-returns-in_default c =
-    sym (each_found (base_due (view c.args.sequence.now)) c.loop-k.k (length c.args.sequence.now) 2 (At c.loop-k.k) (omega arith) c.loop-k.invariant.1 (simp (read_none _ c.read_base-reading.ensures c.in_default.is)))
+returns-then-is_none c =
+    let no = read_tests _ _ c.read_base.ensures ∙ ap not c.if-is_none.ensures in
+    sym (each_found (base_due (view c.args.sequence.now)) c.loop-k.k (length c.args.sequence.now) 2 (Some c.loop-k.k) c.loop-k-test.true c.loop-k.invariant (simp no))
 
 pub loop-k-preserved : goal.loop-k-preserved
 loop-k-preserved c =
-    (omega arith, each_step (base_due (view c.args.sequence.now)) c.loop-k.k c.loop-k.invariant.1 (simp (read_is _ c.read_base-reading.ensures c.in-Is.is)))
+    let yes = read_tests _ _ c.read_base.ensures ∙ ap not c.if-is_none.ensures in
+    each_step (base_due (view c.args.sequence.now)) c.loop-k.k c.loop-k.invariant (simp yes)
 
 pub returns : goal.returns
 unfolding bases_due
 returns c =
     let e : c.loop-k.k ≡ length c.args.sequence.now = omega arith in
-    sym (ap (each (base_due (view c.args.sequence.now))) (sym e) ∙ c.loop-k.invariant.1)
+    sym (ap (each (base_due (view c.args.sequence.now))) (sym e) ∙ c.loop-k.invariant)
