@@ -11,7 +11,7 @@ use lib.Dec.{ltb, eqb}
 use lib.ListN.{length}
 use borrow.Author.Tests.{le-ltb, ltb-false, eq-eqb, ne_eqb, eqb-true, not-false}
 use Rattle.refusals.specs.Refusals.{clear, check, then, structure_limit}
-use Rattle.refusals.specs.declared.Place.TheVariants.{Nowhere}
+use Rattle.std.proofs.Common.{None}
 use Rattle.refusals.proofs.Laws.{check_clear, then_clear, neither}
 use Rattle.structure.specs.Table.{Fold, Sound, opens, opened, closes, closed}
 use Rattle.structure.specs.Soundness.{unsound_due}
@@ -76,9 +76,9 @@ both_clear s t e =
     let long = ltb structure_limit (length s) || ltb structure_limit (length t) in
     let other = not (eqb (length s) (length t)) in
     let unsound = then (unsound_due s) (unsound_due t) in
-    let c = then_clear (check long 3 Nowhere) (then (check other 9 Nowhere) unsound) e in
-    let d = then_clear (check other 9 Nowhere) unsound c.1 in
+    let c = then_clear (check long 3 None) (then (check other 9 None) unsound) e in
+    let d = then_clear (check other 9 None) unsound c.1 in
     let f = then_clear (unsound_due s) (unsound_due t) d.1 in
-    let same = eqb-true (length s) (length t) (not-false _ (check_clear other 9 Nowhere d.0)) in
-    let short = ltb-false structure_limit (length s) (neither (ltb structure_limit (length s)) (ltb structure_limit (length t)) (check_clear long 3 Nowhere c.0)).0 in
+    let same = eqb-true (length s) (length t) (not-false _ (check_clear other 9 None d.0)) in
+    let short = ltb-false structure_limit (length s) (neither (ltb structure_limit (length s)) (ltb structure_limit (length t)) (check_clear long 3 None c.0)).0 in
     (same, short, sound s (omega arith) f.0, sound t (omega arith) f.1)

@@ -1,9 +1,7 @@
 -- The two distances of structures, what two tables are due, and what a call that measures answers. Assumes nothing: these are definitions.
-use Rattle.std.specs.Prelude.{◌≡◌, cond, not, ◌||◌, List, ℕ, zero, suc, ◌+◌, ◌-◌, ltb, eqb, length}
+use Rattle.std.specs.Prelude.{◌≡◌, cond, not, ◌||◌, List, ℕ, zero, suc, ◌+◌, ◌-◌, ltb, eqb, length, None, Result, Ok, Err}
 use Rattle.refusals.specs.Refusals.{Due, clear, due_of, check, then, structure_limit}
-use Rattle.refusals.specs.declared.Place.TheVariants.{Nowhere}
-use Rattle.structure.specs.declared.Answer.{Answer}
-use Rattle.structure.specs.declared.Answer.TheVariants.{Number, Refused}
+use Rattle.refusals.specs.declared.Refusal.{Refusal}
 use Rattle.structure.specs.Table.{view, opens, opened, closed}
 use Rattle.structure.specs.Soundness.{unsound_due}
 
@@ -38,11 +36,11 @@ mountain_distance s t = climbs (view s) (view t) (length s)
 -- what two tables are due: 3, 9, 8 (the first before the second)
 unfoldable pub both_due : List ℕ → List ℕ → Due
 both_due s t =
-    then (check (ltb structure_limit (length s) || ltb structure_limit (length t)) 3 Nowhere)
-    (then (check (not (eqb (length s) (length t))) 9 Nowhere)
+    then (check (ltb structure_limit (length s) || ltb structure_limit (length t)) 3 None)
+    (then (check (not (eqb (length s) (length t))) 9 None)
     (then (unsound_due s) (unsound_due t)))
 
 -- `base_pair_distance` and `mountain_distance`, which differ in the figure d
-abbrev pub Measures : List ℕ → List ℕ → ℕ → Answer → Type 0
-Measures s t d (Number m) = (both_due s t ≡ clear) × (m ≡ d)
-Measures s t d (Refused q) = both_due s t ≡ due_of q
+abbrev pub Measures : List ℕ → List ℕ → ℕ → Result ℕ Refusal → Type 0
+Measures s t d (Ok m) = (both_due s t ≡ clear) × (m ≡ d)
+Measures s t d (Err q) = both_due s t ≡ due_of q

@@ -4,28 +4,22 @@
 ghost use Rattle.std.specs.Prelude.{◌≡◌, cond, ◌+◌, ◌-◌, ◌≤◌, eqb, length};
 ghost use Rattle.refusals.specs.Refusals.{structure_limit, told};
 ghost use Rattle.structure.specs.Table.{Sound, opens, closes};
-ghost use Rattle.distances.specs.Distance.{both_due, base_pair_distance, between, mountain_distance, Measures};
+ghost use Rattle.distances.specs.Distance.{both_due, base_pair_distance, mountain_distance, Measures};
 
-use refusals::{Refusal, STRUCTURE_LIMIT, Verdict};
-use structure::Answer;
+use refusals::{Refusal, STRUCTURE_LIMIT};
 
 // What stands in the way of a distance: 3 for either table, 9, 8 for the first table before the second.
-fn both_checks(a: &[u16], b: &[u16]) -> Verdict
+#[tactic(auto, unfolding(crate::specs::Distance::both_due))]
+fn both_checks(a: &[u16], b: &[u16]) -> Result<(), Refusal>
     ensures { told result ≡ both_due a.now b.now }
 {
-    if STRUCTURE_LIMIT < a.len() {
-        return Verdict::Refuse(Refusal::TooLong);
-    }
-    if STRUCTURE_LIMIT < b.len() {
-        return Verdict::Refuse(Refusal::TooLong);
+    if STRUCTURE_LIMIT < a.len() || STRUCTURE_LIMIT < b.len() {
+        return Err(Refusal::TooLong);
     }
     if a.len() != b.len() {
-        return Verdict::Refuse(Refusal::Unequal);
+        return Err(Refusal::Unequal);
     }
-    let first = structure::unsound(a);
-    if let Verdict::Refuse(q) = first {
-        return Verdict::Refuse(q);
-    }
+    structure::unsound(a)?;
     structure::unsound(b)
 }
 
@@ -33,13 +27,11 @@ fn both_checks(a: &[u16], b: &[u16]) -> Verdict
 fn lacking(k: usize, v: u16, w: u16) -> usize
     ensures { result ≡ cond (eqb w v) 0 (opens k v) }
 {
-    if w == v {
-        return 0;
-    }
-    structure::opening(k, v)
+    usize::from(w != v && structure::opens(k, v))
 }
 
 // How many pairs open at position k in one table, by its entry v or w there, and are not in the other.
+#[tactic(auto, using(crate::proofs::Distances::lacking_le))]
 fn unshared(k: usize, v: u16, w: u16) -> usize
     ensures { result ≡ cond (eqb w v) 0 (opens k v) + cond (eqb v w) 0 (opens k w) }
 {
@@ -47,50 +39,34 @@ fn unshared(k: usize, v: u16, w: u16) -> usize
 }
 
 // The base pair distance of two tables: a pair is found at its opening position alone.
+#[tactic(auto, using(crate::proofs::Distances::apart_le, crate::proofs::Distances::apart_step))]
 fn pairs_apart(a: &[u16], b: &[u16]) -> usize
     requires a_len { length a.now ≡ length b.now }
     requires a_len_bound { length a.now ≤ structure_limit }
     ensures { result ≡ base_pair_distance a.now b.now }
 {
-    let mut n: usize = 0;
-    let mut i: usize = 0;
-    while i < a.len() {
-        n += unshared(i, a[i], b[i]);
-        i += 1;
+    let mut n = 0;
+    for (k, &v) in a.iter().enumerate() {
+        n += unshared(k, v, b[k]);
     }
     n
 }
 
-// 1 where the entry v of position k closes a pair.
-fn closing(k: usize, v: u16) -> usize
-    ensures { result ≡ closes k v }
+// Whether the entry v of position k closes a pair.
+fn closes(k: usize, v: u16) -> bool
+    ensures { cond result 1 0 ≡ closes k v }
 {
-    if v == 65535 {
-        return 0;
-    }
-    if (v as usize) < k {
-        return 1;
-    }
-    0
+    v != 65535 && (v as usize) < k
 }
 
 // The height at position k, whose entry is v, from the height h before it: a closing place is already down.
+#[tactic(auto, using(structure::proofs::Counts::opens_le))]
 fn raised(h: usize, k: usize, v: u16) -> usize
     requires h_le_structure_limit { h ≤ structure_limit }
     requires v_bound { closes k v ≤ h + opens k v }
     ensures { result ≡ (h + opens k v) - closes k v }
 {
-    h + structure::opening(k, v) - closing(k, v)
-}
-
-// The absolute difference.
-fn gap(x: usize, y: usize) -> usize
-    ensures { result ≡ between x y }
-{
-    if x < y {
-        return y - x;
-    }
-    x - y
+    h + usize::from(structure::opens(k, v)) - usize::from(closes(k, v))
 }
 
 // The mountain distance of two sound tables. Both heights are carried along, so one walk is enough.
@@ -101,37 +77,31 @@ fn climb(a: &[u16], b: &[u16]) -> usize
     requires sound_2 { Sound b.now }
     ensures { result ≡ mountain_distance a.now b.now }
 {
-    let mut x: usize = 0;
-    let mut y: usize = 0;
-    let mut sum: usize = 0;
-    let mut i: usize = 0;
-    while i < a.len() {
-        x = raised(x, i, a[i]);
-        y = raised(y, i, b[i]);
-        sum += gap(x, y);
-        i += 1;
+    let mut x = 0;
+    let mut y = 0;
+    let mut sum = 0;
+    for (k, &v) in a.iter().enumerate() {
+        x = raised(x, k, v);
+        y = raised(y, k, b[k]);
+        sum += x.abs_diff(y);
     }
     sum
 }
 
 // How many pairs are in one of two structures and not in the other.
-pub fn base_pair_distance(a: &[u16], b: &[u16]) -> Answer
+#[tactic(auto, using(crate::proofs::Distances::both_clear))]
+pub fn base_pair_distance(a: &[u16], b: &[u16]) -> Result<usize, Refusal>
     ensures { Measures a.now b.now (base_pair_distance a.now b.now) result }
 {
-    let found = both_checks(a, b);
-    if let Verdict::Refuse(q) = found {
-        return Answer::Refused(q);
-    }
-    Answer::Number(pairs_apart(a, b))
+    both_checks(a, b)?;
+    Ok(pairs_apart(a, b))
 }
 
 // How far the mountains of two structures are apart: the differences of their heights, summed.
-pub fn mountain_distance(a: &[u16], b: &[u16]) -> Answer
+#[tactic(auto, using(crate::proofs::Distances::both_clear))]
+pub fn mountain_distance(a: &[u16], b: &[u16]) -> Result<usize, Refusal>
     ensures { Measures a.now b.now (mountain_distance a.now b.now) result }
 {
-    let found = both_checks(a, b);
-    if let Verdict::Refuse(q) = found {
-        return Answer::Refused(q);
-    }
-    Answer::Number(climb(a, b))
+    both_checks(a, b)?;
+    Ok(climb(a, b))
 }

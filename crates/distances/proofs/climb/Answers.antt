@@ -8,40 +8,38 @@ use Rattle.distances.specs.Distance.{climbs}
 use Rattle.distances.proofs.Distances.{height_step, climbing_step, climbs_le}
 use Rattle.distances.proofs.climb.Goals as goal
 
-pub loop-i-init : goal.loop-i-init
-loop-i-init c = (omega arith, record { left = refl; right = refl; total = refl })
+pub loop-k-init : goal.loop-k-init
+loop-k-init c = record { left = refl; right = refl; total = refl }
 
 pub raised-x-requires : goal.raised-x-requires
 raised-x-requires c =
-    let p = view c.args.a.now in record { h_le_structure_limit = omega (arith, opened_le p c.loop-i.i); v_bound = (height_step p c.loop-i.i _ c.requires.sound (omega arith) c.loop-i.invariant.1.left).0 }
+    let p = view c.args.a.now in record { h_le_structure_limit = omega (arith, opened_le p c.loop-k.k); v_bound = (height_step p c.loop-k.k _ c.requires.sound (omega arith) c.loop-k.invariant.left).0 }
 
 pub raised-y-requires : goal.raised-y-requires
 raised-y-requires c =
-    let q = view c.args.b.now in record { h_le_structure_limit = omega (arith, opened_le q c.loop-i.i); v_bound = (height_step q c.loop-i.i _ c.requires.sound_2 (omega arith) c.loop-i.invariant.1.right).0 }
+    let q = view c.args.b.now in record { h_le_structure_limit = omega (arith, opened_le q c.loop-k.k); v_bound = (height_step q c.loop-k.k _ c.requires.sound_2 (omega arith) c.loop-k.invariant.right).0 }
 
-pub loop-i-preserved : goal.loop-i-preserved
-loop-i-preserved c =
+pub loop-k-preserved : goal.loop-k-preserved
+loop-k-preserved c =
     let p = view c.args.a.now in
-    let q = view c.args.b.now in (
-      omega arith,
-      climbing_step p q c.loop-i.i _ _ _ c.loop-i.invariant.1
-          (c.raised-x.ensures ∙ (height_step p c.loop-i.i _ c.requires.sound (omega arith) c.loop-i.invariant.1.left).1)
-          (c.raised-y.ensures ∙ (height_step q c.loop-i.i _ c.requires.sound_2 (omega arith) c.loop-i.invariant.1.right).1)
-          c.gap-sum.ensures,
-    )
+    let q = view c.args.b.now in
+    climbing_step p q c.loop-k.k _ _ _ c.loop-k.invariant
+    (c.raised-x.ensures ∙ (height_step p c.loop-k.k _ c.requires.sound (omega arith) c.loop-k.invariant.left).1)
+    (c.raised-y.ensures ∙ (height_step q c.loop-k.k _ c.requires.sound_2 (omega arith) c.loop-k.invariant.right).1)
+    c.abs_diff-sum.ensures
 
 pub overflow_add-sum : goal.overflow_add-sum
 overflow_add-sum c =
     let p = view c.args.a.now in
     let q = view c.args.b.now in
-    let step = climbing_step p q c.loop-i.i _ _ _ c.loop-i.invariant.1
-    (c.raised-x.ensures ∙ (height_step p c.loop-i.i _ c.requires.sound (omega arith) c.loop-i.invariant.1.left).1)
-    (c.raised-y.ensures ∙ (height_step q c.loop-i.i _ c.requires.sound_2 (omega arith) c.loop-i.invariant.1.right).1)
-    c.gap-sum.ensures in
+    let step = climbing_step p q c.loop-k.k _ _ _ c.loop-k.invariant
+    (c.raised-x.ensures ∙ (height_step p c.loop-k.k _ c.requires.sound (omega arith) c.loop-k.invariant.left).1)
+    (c.raised-y.ensures ∙ (height_step q c.loop-k.k _ c.requires.sound_2 (omega arith) c.loop-k.invariant.right).1)
+    c.abs_diff-sum.ensures in
     let e = step.total in
-    omega (arith, climbs_le p q (c.loop-i.i + 1) (omega arith))
+    omega (arith, climbs_le p q (c.loop-k.k + 1) (omega arith))
 
 pub returns : goal.returns
 returns c =
-    let e : c.loop-i.i ≡ length c.args.a.now = omega arith in
-    c.loop-i.invariant.1.total ∙ ap (climbs (view c.args.a.now) (view c.args.b.now)) e
+    let e : c.loop-k.k ≡ length c.args.a.now = omega arith in
+    c.loop-k.invariant.total ∙ ap (climbs (view c.args.a.now) (view c.args.b.now)) e
