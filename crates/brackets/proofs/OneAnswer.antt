@@ -5,8 +5,8 @@ use mathlib.Core.List.{List, ◌++◌}
 use Prim.Native.Nat.{ℕ}
 use lib.ListN.{length, take, drop, take-append-drop}
 use Rattle.refusals.proofs.Laws.{one_of, one_refusal}
-use Rattle.structure.specs.declared.Answer.{Answer}
-use Rattle.structure.specs.declared.Answer.TheVariants.{Number, Refused}
+use Rattle.refusals.specs.declared.Refusal.{Refusal}
+use Rattle.std.proofs.Common.{Result, Ok, Err}
 use Rattle.brackets.specs.Calls.{Written, Parses, Spells}
 use Rattle.brackets.proofs.Glyphs.{one_table}
 
@@ -19,14 +19,14 @@ one_memory s o o' o'' w v =
     ∙ ap (λ (x : List ℕ). take n o'' ++ x) (w.surplus ∙ sym v.surplus)
     ∙ take-append-drop n o''
 
-pub one_parse : (s o o' o'' : List ℕ) (a a' : Answer) → Parses s o o' a → Parses s o o'' a' → (a ≡ a') × (o' ≡ o'')
-one_parse s o o' o'' (Number n) (Number m) f g = (ap Number (f.1 ∙ sym g.1), one_memory s o o' o'' f.2 g.2)
-one_parse s o o' o'' (Number n) (Refused q) f g = absurd (one_of q f.0 g.0)
-one_parse s o o' o'' (Refused q) (Number m) f g = absurd (one_of q g.0 f.0)
-one_parse s o o' o'' (Refused q) (Refused r) f g = (ap Refused (one_refusal q r f.0 g.0), f.1 ∙ sym g.1)
+pub one_parse : (s o o' o'' : List ℕ) (a a' : Result ℕ Refusal) → Parses s o o' a → Parses s o o'' a' → (a ≡ a') × (o' ≡ o'')
+one_parse s o o' o'' (Ok n) (Ok m) f g = (ap Ok (f.1 ∙ sym g.1), one_memory s o o' o'' f.2 g.2)
+one_parse s o o' o'' (Ok n) (Err q) f g = absurd (one_of q f.0 g.0)
+one_parse s o o' o'' (Err q) (Ok m) f g = absurd (one_of q g.0 f.0)
+one_parse s o o' o'' (Err q) (Err r) f g = (ap Err (one_refusal q r f.0 g.0), f.1 ∙ sym g.1)
 
-pub one_spelling : (t o o' o'' : List ℕ) (a a' : Answer) → Spells t o o' a → Spells t o o'' a' → (a ≡ a') × (o' ≡ o'')
-one_spelling t o o' o'' (Number n) (Number m) f g = (ap Number (f.1 ∙ sym g.1), f.2 ∙ sym g.2)
-one_spelling t o o' o'' (Number n) (Refused q) f g = absurd (one_of q f.0 g.0)
-one_spelling t o o' o'' (Refused q) (Number m) f g = absurd (one_of q g.0 f.0)
-one_spelling t o o' o'' (Refused q) (Refused r) f g = (ap Refused (one_refusal q r f.0 g.0), f.1 ∙ sym g.1)
+pub one_spelling : (t o o' o'' : List ℕ) (a a' : Result ℕ Refusal) → Spells t o o' a → Spells t o o'' a' → (a ≡ a') × (o' ≡ o'')
+one_spelling t o o' o'' (Ok n) (Ok m) f g = (ap Ok (f.1 ∙ sym g.1), f.2 ∙ sym g.2)
+one_spelling t o o' o'' (Ok n) (Err q) f g = absurd (one_of q f.0 g.0)
+one_spelling t o o' o'' (Err q) (Ok m) f g = absurd (one_of q g.0 f.0)
+one_spelling t o o' o'' (Err q) (Err r) f g = (ap Err (one_refusal q r f.0 g.0), f.1 ∙ sym g.1)

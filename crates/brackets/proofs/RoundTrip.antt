@@ -11,10 +11,10 @@ use lib.ListN.{length, take, drop}
 use lib.Seq.{take_at}
 use borrow.Author.Tests.{le-ltb, ltb-false}
 use Rattle.refusals.specs.Refusals.{clear, each, structure_limit}
-use Rattle.refusals.specs.declared.Place.TheVariants.{Nowhere}
+use Rattle.std.proofs.Common.{None}
 use Rattle.refusals.proofs.Laws.{one_of, check_clear, then_clear, clear_each}
-use Rattle.structure.specs.declared.Answer.{Answer}
-use Rattle.structure.specs.declared.Answer.TheVariants.{Number, Refused}
+use Rattle.refusals.specs.declared.Refusal.{Refusal}
+use Rattle.std.proofs.Common.{Result, Ok, Err}
 use Rattle.structure.specs.Table.{unpaired, view, Sound, opens, opened, closes, closed}
 use Rattle.structure.proofs.Counts.{opens_none, opens_low, opens_high}
 use Rattle.structure.proofs.Levels.{closes_none, closes_low, closes_high, closed_below, closed_level}
@@ -82,10 +82,10 @@ spelt_clear t room f l h =
 -- a text that is accepted is short enough
 accepted_short : (s : List ℕ) (room : ℕ) → text_due s room ≡ clear → length s ≤ structure_limit
 unfolding text_due
-accepted_short s room e = ltb-false structure_limit (length s) (check_clear (ltb structure_limit (length s)) 3 Nowhere (then_clear _ _ e).0)
+accepted_short s room e = ltb-false structure_limit (length s) (check_clear (ltb structure_limit (length s)) 3 None (then_clear _ _ e).0)
 
-pub text_table_text : (s o o' u u' : List ℕ) (n : ℕ) (a : Answer) → Parses s o o' (Number n) → Spells (take n o') u u' a → length s ≤ length u
-    → (a ≡ Number n) × (take n u' ≡ s)
+pub text_table_text : (s o o' u u' : List ℕ) (n : ℕ) (a : Result ℕ Refusal) → Parses s o o' (Ok n) → Spells (take n o') u u' a → length s ≤ length u
+    → (a ≡ Ok n) × (take n u' ≡ s)
 text_table_text s o o' u u' n a p w room =
     let t = take n o' in
     let fold : Sound t = rw p.1 p.2.sound in
@@ -93,23 +93,23 @@ text_table_text s o o' u u' n a p w room =
     let long : length t ≡ n = sym (brackets_long t) ∙ ap length text ∙ sym p.1 in
     let small = accepted_short s (length o) p.0 in
     let due = write_clear t (length u) (length t) (clear_table t (omega arith) fold) (omega arith) in
-    let r = one_spelling t u u' (brackets t ++ drop (length t) u) a (Number (length t)) w (due, refl, refl) in (
-      r.0 ∙ ap Number long,
+    let r = one_spelling t u u' (brackets t ++ drop (length t) u) a (Ok (length t)) w (due, refl, refl) in (
+      r.0 ∙ ap Ok long,
       ap (take n) r.1 ∙ take_at (brackets t) (drop (length t) u) n (brackets_long t ∙ long) ∙ text,
     )
 
 -- a table's brackets are parsed to that table
-parsed_back : (t u u' : List ℕ) (a : Answer) → Sound t → length t ≤ structure_limit → length t ≤ length u → Parses (brackets t) u u' a
-    → (a ≡ Number (length t)) × (take (length t) u' ≡ t)
-parsed_back t u u' (Number m) f l h p =
+parsed_back : (t u u' : List ℕ) (a : Result ℕ Refusal) → Sound t → length t ≤ structure_limit → length t ≤ length u → Parses (brackets t) u u' a
+    → (a ≡ Ok (length t)) × (take (length t) u' ≡ t)
+parsed_back t u u' (Ok m) f l h p =
     let e = brackets_long t in (
-      ap Number (p.1 ∙ e),
+      ap Ok (p.1 ∙ e),
       ap (λ (x : ℕ). take x u') (sym e) ∙ one_table (take (length (brackets t)) u') t p.2.sound f p.2.text,
     )
-parsed_back t u u' (Refused q) f l h p = absurd (one_of q (spelt_clear t (length u) f l h) p.0)
+parsed_back t u u' (Err q) f l h p = absurd (one_of q (spelt_clear t (length u) f l h) p.0)
 
-pub table_text_table : (t o o' u u' : List ℕ) (n : ℕ) (a : Answer) → Spells t o o' (Number n) → Parses (take n o') u u' a → length t ≤ length u
-    → (a ≡ Number n) × (take n u' ≡ t)
+pub table_text_table : (t o o' u u' : List ℕ) (n : ℕ) (a : Result ℕ Refusal) → Spells t o o' (Ok n) → Parses (take n o') u u' a → length t ≤ length u
+    → (a ≡ Ok n) × (take n u' ≡ t)
 table_text_table t o o' u u' n a w p room =
     let due = table_clear t (written_clear t (length o) (length t) w.0) in
     let text : take n o' ≡ brackets t = ap (take n) w.2 ∙ take_at (brackets t) (drop (length t) o) n (brackets_long t ∙ sym w.1) in

@@ -8,8 +8,9 @@ use native.Mathlib.Numerals.{add-one}
 use native.Mathlib.Decide.{dec_lt, ℕ_discrete}
 use lib.Dec.{ltb, leb, eqb}
 use borrow.Author.Tests.{eq-eqb, ne_eqb, lt-ltb, le-ltb, le-leb, lt-leb}
-use Rattle.refusals.specs.Refusals.{Due, clear, refuse, check, each}
-use Rattle.refusals.specs.declared.Place.TheVariants.{At}
+use Rattle.refusals.specs.Refusals.{number, place, Due, clear, refuse, check, each, due_of}
+use Rattle.refusals.specs.declared.Refusal.{Refusal}
+use Rattle.std.proofs.Common.{Some}
 use Rattle.refusals.specs.declared.Refusal.TheVariants.{Unopened, NoBracket, Unclosed}
 use Rattle.refusals.proofs.Laws.{one_of, each_clear, clear_each, each_found, some_at, false_some}
 use Rattle.brackets.specs.Text.{next, depth, offends, offence, unmatched, unclosed}
@@ -40,10 +41,10 @@ offends_dot v d k e = rw (ne_eqb v 41 (omega arith), ne_eqb v 40 (omega arith), 
 pub offends_close : (v d k : ℕ) → v ≡ 41 → d ≢ 0 → offends v d k ≡ clear
 offends_close v d k e n = rw (eq-eqb v 41 e, ne_eqb d 0 n, ne_eqb v 40 (omega arith))
 
-pub offends_unopened : (v d k : ℕ) → v ≡ 41 → d ≡ 0 → offends v d k ≡ refuse 5 (At k)
+pub offends_unopened : (v d k : ℕ) → v ≡ 41 → d ≡ 0 → offends v d k ≡ refuse 5 (Some k)
 offends_unopened v d k e z = rw (eq-eqb v 41 e, eq-eqb d 0 z)
 
-pub offends_other : (v d k : ℕ) → v ≢ 40 → v ≢ 41 → v ≢ 46 → offends v d k ≡ refuse 6 (At k)
+pub offends_other : (v d k : ℕ) → v ≢ 40 → v ≢ 41 → v ≢ 46 → offends v d k ≡ refuse 6 (Some k)
 offends_other v d k n m l = rw (ne_eqb v 41 m, ne_eqb v 40 n, ne_eqb v 46 l)
 
 proper : (b : ℕ → ℕ) (k : ℕ) → offence b k ≡ clear → Proper b k
@@ -55,6 +56,12 @@ proper b k e = record {
 -- what a byte comes to, by how many a loop has counted
 pub judged : (b : ℕ → ℕ) (d i : ℕ) (due : Due) → d ≡ depth b i → due ≡ offends (b i) d i → offence b i ≡ due
 judged b d i due e o = ap (λ (x : ℕ). offends (b i) x i) (sym e) ∙ sym o
+
+-- a refusal found at the first place that has one is that of the text
+pub offence_found : (b : ℕ → ℕ) (k n d : ℕ) (q : Refusal) → k < n → each (offence b) k ≡ clear → d ≡ depth b k → due_of q ≡ offends (b k) d k
+    → due_of q ≡ each (offence b) n
+offence_found b k n d q h e o f =
+    sym (each_found (offence b) k n (number q) (place q) h e (judged b _ _ _ o f))
 
 -- nothing is found at the places below n exactly where no byte there offends
 pub clean : (b : ℕ → ℕ) (n : ℕ) → each (offence b) n ≡ clear → Clean b n
@@ -71,16 +78,16 @@ is_closed : (b : ℕ → ℕ) (n i m : ℕ) → i < m → m ≤ n → depth b m 
 unfolding unmatched falls
 is_closed b n i m l h d =
     let fell = some_at (falls b i) (suc n) m (omega arith) (rw (lt-ltb i m l, le-leb (depth b m) (depth b i) d)) in
-    ap (λ (x : Bool). check (eqb (b i) 40 && not x) 7 (At i)) fell ∙ ap (λ (x : Bool). check x 7 (At i)) (and-false (eqb (b i) 40))
+    ap (λ (x : Bool). check (eqb (b i) 40 && not x) 7 (Some i)) fell ∙ ap (λ (x : Bool). check x 7 (Some i)) (and-false (eqb (b i) 40))
 
 -- where it never does, it is left open
-is_left : (b : ℕ → ℕ) (n i : ℕ) → b i ≡ 40 → ((m : ℕ) → i < m → m ≤ n → depth b i < depth b m) → unclosed b n i ≡ refuse 7 (At i)
+is_left : (b : ℕ → ℕ) (n i : ℕ) → b i ≡ 40 → ((m : ℕ) → i < m → m ≤ n → depth b i < depth b m) → unclosed b n i ≡ refuse 7 (Some i)
 unfolding unmatched falls
 is_left b n i e u =
     let never = false_some (falls b i) (suc n) (λ m h. by_cases (dec_lt i m)
     (λ l. let d = u m l (omega arith) in rw (lt-ltb i m l, lt-leb (depth b m) (depth b i) d))
     (λ g. rw (le-ltb i m (omega arith)))) in
-    ap (λ (x : Bool). check (eqb (b i) 40 && not x) 7 (At i)) never ∙ rw (eq-eqb (b i) 40 e)
+    ap (λ (x : Bool). check (eqb (b i) 40 && not x) 7 (Some i)) never ∙ rw (eq-eqb (b i) 40 e)
 
 -- nothing is open before first, and something is before each later place below i
 pub record Since (b : ℕ → ℕ) (first i : ℕ) : Type 0 where
@@ -116,7 +123,7 @@ rises v h = by_cases (ℕ_discrete v 40) (λ e. e)
     (λ m. let q : next v 0 ≡ 0 = rw (ne_eqb v 40 n, ne_eqb v 41 m) in omega arith)))
 
 -- where something is open in the end, the leftmost unmatched `(` is at the last place at which nothing was
-pub leftmost : (b : ℕ → ℕ) (first n : ℕ) → Since b first n → depth b n ≢ 0 → each (unclosed b n) n ≡ refuse 7 (At first)
+pub leftmost : (b : ℕ → ℕ) (first n : ℕ) → Since b first n → depth b n ≢ 0 → each (unclosed b n) n ≡ refuse 7 (Some first)
 leftmost b first n s d =
     let z = s.none in
     let w = s.within in
@@ -124,7 +131,7 @@ leftmost b first n s d =
     let up : (m : ℕ) → first < m → m ≤ n → 0 < depth b m = λ m l r.
     by_cases (ℕ_discrete n m) (λ e. rw (← e) (omega arith)) (λ nm. s.later m l (omega arith)) in
     let u = up (suc first) (omega arith) (omega arith) in
-    each_found (unclosed b n) first n 7 (At first) (omega arith)
+    each_found (unclosed b n) first n 7 (Some first) (omega arith)
     (clear_each (unclosed b n) first (λ j l. is_closed b n j first l w (omega arith)))
     (is_left b n first (rises (b first) (rw z at u)) (λ m l r. let x = up m l r in omega arith))
 

@@ -1,7 +1,6 @@
 -- Bracket text, `(` 40, `)` 41, `.` 46, and what a text is due. Assumes nothing: these are definitions.
-use Rattle.std.specs.Prelude.{Bool, cond, not, ◌&&◌, ◌||◌, List, ℕ, zero, suc, ◌-◌, ltb, leb, eqb, length}
+use Rattle.std.specs.Prelude.{Bool, cond, not, ◌&&◌, ◌||◌, List, ℕ, zero, suc, ◌-◌, ltb, leb, eqb, length, None, Some}
 use Rattle.refusals.specs.Refusals.{Due, check, then, each, some, structure_limit}
-use Rattle.refusals.specs.declared.Place.TheVariants.{Nowhere, At}
 use Rattle.structure.specs.Table.{view}
 
 -- how many are open after the byte v, where d were open before it
@@ -15,7 +14,7 @@ depth b (suc k) = next (b k) (depth b k)
 
 -- the byte v at place k, where d are open: `)` with nothing open is 5, a byte other than the three is 6
 abbrev pub offends : ℕ → ℕ → ℕ → Due
-offends v d k = then (check (eqb v 41 && eqb d 0) 5 (At k)) (check (not (eqb v 40 || (eqb v 41 || eqb v 46))) 6 (At k))
+offends v d k = then (check (eqb v 41 && eqb d 0) 5 (Some k)) (check (not (eqb v 40 || (eqb v 41 || eqb v 46))) 6 (Some k))
 
 abbrev pub offence : (ℕ → ℕ) → ℕ → Due
 offence b k = offends (b k) (depth b k) k
@@ -26,12 +25,12 @@ unmatched b n i = eqb (b i) 40 && not (some (λ m. ltb i m && leb (depth b m) (d
 
 -- an unmatched `(` is 7
 abbrev pub unclosed : (ℕ → ℕ) → ℕ → ℕ → Due
-unclosed b n i = check (unmatched b n i) 7 (At i)
+unclosed b n i = check (unmatched b n i) 7 (Some i)
 
 -- what a text is due, with room for that many positions: 3; 5 or 6 at the first offending place; 7; 4
 unfoldable pub text_due : List ℕ → ℕ → Due
 text_due s room =
-    then (check (ltb structure_limit (length s)) 3 Nowhere)
+    then (check (ltb structure_limit (length s)) 3 None)
     (then (each (offence (view s)) (length s))
     (then (each (unclosed (view s) (length s)) (length s))
-    (check (ltb room (length s)) 4 Nowhere)))
+    (check (ltb room (length s)) 4 None)))

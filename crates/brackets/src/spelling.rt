@@ -20,9 +20,7 @@ pub fn spell(table: &[u16], text: &mut [u8])
     requires { length table.now ≤ length text.old }
     ensures { text.new ≡ brackets table.now ++ drop (length table.now) text.old }
 {
-    let mut i: usize = 0;
-    while i < table.len() {
-        text[i] = bracket(i, table[i]);
-        i += 1;
+    for (k, &v) in table.iter().enumerate() {
+        text[k] = bracket(k, v);
     }
 }

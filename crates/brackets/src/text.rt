@@ -6,79 +6,62 @@ ghost use Rattle.brackets.specs.Text.{next, depth, offends, offence, unclosed};
 ghost use Rattle.brackets.specs.Parsing.{Clean, wrote, new_top};
 ghost use Rattle.brackets.specs.Calls.{Written};
 
-use refusals::{Refusal, Verdict};
+use refusals::Refusal;
 
 // How many are open after the byte b, where d were before it.
 pub fn after(b: u8, d: usize) -> usize
     requires { d < 65536 }
     ensures { result ≡ next b d }
 {
-    if b == b'(' {
-        return d + 1;
+    match b {
+        b'(' => d + 1,
+        b')' => d.saturating_sub(1),
+        _ => d,
     }
-    if b == b')' {
-        if d == 0 {
-            return 0;
-        }
-        return d - 1;
-    }
-    d
 }
 
 // What the byte b at place k comes to, where d are open.
-pub fn offence_at(b: u8, d: usize, k: usize) -> Verdict
+pub fn offence_at(b: u8, d: usize, k: usize) -> Result<(), Refusal>
     ensures { told result ≡ offends b d k }
 {
     match b {
-        b'(' | b'.' => Verdict::Clear,
-        b')' => {
-            if d == 0 {
-                return Verdict::Refuse(Refusal::Unopened(k));
-            }
-            Verdict::Clear
-        }
-        _ => Verdict::Refuse(Refusal::NoBracket(k)),
+        b'(' | b'.' => Ok(()),
+        b')' if d == 0 => Err(Refusal::Unopened(k)),
+        b')' => Ok(()),
+        _ => Err(Refusal::NoBracket(k)),
     }
 }
 
 // The refusal at the first offending place.
-pub fn first_offence(text: &[u8]) -> Verdict
+pub fn first_offence(text: &[u8]) -> Result<(), Refusal>
     requires { length text.now ≤ structure_limit }
     ensures { told result ≡ each (offence (view text.now)) (length text.now) }
 {
-    let mut d: usize = 0;
-    let mut i: usize = 0;
-    while i < text.len() {
-        let b = text[i];
-        let verdict = offence_at(b, d, i);
-        if let Verdict::Refuse(refusal) = verdict {
-            return Verdict::Refuse(refusal);
-        }
+    let mut d = 0;
+    for (k, &b) in text.iter().enumerate() {
+        offence_at(b, d, k)?;
         d = after(b, d);
-        i += 1;
     }
-    Verdict::Clear
+    Ok(())
 }
 
 // The refusal at the leftmost unmatched `(`: the last place at which nothing was open, where something is open in the end.
-pub fn first_unmatched(text: &[u8]) -> Verdict
+pub fn first_unmatched(text: &[u8]) -> Result<(), Refusal>
     requires { length text.now ≤ structure_limit }
     ensures { told result ≡ each (unclosed (view text.now) (length text.now)) (length text.now) }
 {
-    let mut d: usize = 0;
-    let mut first: usize = 0;
-    let mut i: usize = 0;
-    while i < text.len() {
+    let mut d = 0;
+    let mut first = 0;
+    for (k, &b) in text.iter().enumerate() {
         if d == 0 {
-            first = i;
+            first = k;
         }
-        d = after(text[i], d);
-        i += 1;
+        d = after(b, d);
     }
     if d == 0 {
-        return Verdict::Clear;
+        return Ok(());
     }
-    Verdict::Refuse(Refusal::Unclosed(first))
+    Err(Refusal::Unclosed(first))
 }
 
 // One turn of the writing: the byte b at place i, where top is the innermost open place. Returns the next innermost one.
@@ -90,18 +73,22 @@ pub fn put(b: u8, i: usize, top: usize, pairs: &mut [u16]) -> usize
     ensures value { result ≡ new_top b i top pairs.old }
     ensures pairs_after { pairs.new ≡ wrote b i top pairs.old }
 {
-    if b == b'(' {
-        pairs[i] = top as u16;
-        return i;
+    match b {
+        b'(' => {
+            pairs[i] = top as u16;
+            i
+        }
+        b')' => {
+            let around = usize::from(pairs[top]);
+            pairs[top] = i as u16;
+            pairs[i] = top as u16;
+            around
+        }
+        _ => {
+            pairs[i] = 65535;
+            top
+        }
     }
-    if b == b')' {
-        let around = pairs[top] as usize;
-        pairs[top] = i as u16;
-        pairs[i] = top as u16;
-        return around;
-    }
-    pairs[i] = 65535;
-    top
 }
 
 // Writes the table of a text. An open place's entry holds the open place around it, so no other memory is needed for the stack.
@@ -112,10 +99,8 @@ pub fn fill(text: &[u8], pairs: &mut [u16])
     requires text_value { depth (view text.now) (length text.now) ≡ 0 }
     ensures { Written text.now pairs.old pairs.new }
 {
-    let mut top: usize = 65535;
-    let mut i: usize = 0;
-    while i < text.len() {
-        top = put(text[i], i, top, pairs);
-        i += 1;
+    let mut top = 65535;
+    for (k, &b) in text.iter().enumerate() {
+        top = put(b, k, top, pairs);
     }
 }

@@ -6,22 +6,19 @@ use Rattle.brackets.specs.Brackets.{brackets}
 use Rattle.brackets.proofs.Glyphs.{brackets_at, brackets_long}
 use Rattle.brackets.proofs.spelling.spell.Goals as goal
 
-pub loop-i-init : goal.loop-i-init
-loop-i-init c = (omega arith, front_start _ _)
+pub loop-k-init : goal.loop-k-init
+loop-k-init c = front_start _ _
 
-pub bounds-text-i : goal.bounds-text-i
-bounds-text-i c = omega arith
-
-pub loop-i-preserved : goal.loop-i-preserved
-loop-i-preserved c =
+pub loop-k-preserved : goal.loop-k-preserved
+loop-k-preserved c =
     let long = brackets_long c.args.table.now in
-    (omega arith, front_step _ _ _ _ _ c.loop-i.invariant.1 (omega arith) (omega arith) (c.bracket.ensures ∙ sym (brackets_at c.args.table.now c.loop-i.i (omega arith))))
+    front_step _ _ _ _ _ c.loop-k.invariant (omega arith) (omega arith) (c.bracket.ensures ∙ sym (brackets_at c.args.table.now c.loop-k.k (omega arith)))
 
 pub shape_of-text : goal.shape_of-text
-shape_of-text c = c.loop-i.invariant.1.long
+shape_of-text c = c.loop-k.invariant.long
 
 pub returns : goal.returns
 returns c =
     let long = brackets_long c.args.table.now in
-    let e : c.loop-i.i ≡ length (brackets c.args.table.now) = omega arith in
-    rw (← long) (front_end _ _ _ (rw e at c.loop-i.invariant.1))
+    let e : c.loop-k.k ≡ length (brackets c.args.table.now) = omega arith in
+    rw (← long) (front_end _ _ _ (rw e at c.loop-k.invariant))

@@ -7,29 +7,28 @@ use Rattle.brackets.proofs.Scan.{depth_le, depth_step, since_none, since_here, s
 use Rattle.brackets.proofs.text.first_unmatched.Goals as goal
 use Rattle.brackets.proofs.text.first_unmatched.Goals.{then-d-eq0, else-d-eq0}
 
-pub loop-i-init : goal.loop-i-init
-loop-i-init c = (omega arith, refl, since_none _)
+pub loop-k-init : goal.loop-k-init
+loop-k-init c = (refl, since_none _)
 
 pub after-d-requires : goal.after-d-requires
-after-d-requires c = omega (arith, depth_le (view c.args.text.now) c.loop-i.i)
+after-d-requires c = omega (arith, depth_le (view c.args.text.now) c.loop-k.k)
 
-pub loop-i-preserved : goal.loop-i-preserved
-loop-i-preserved c =
+pub loop-k-preserved : goal.loop-k-preserved
+loop-k-preserved c =
     let b = view c.args.text.now in (
-      omega arith,
-      c.after-d.ensures ∙ depth_step b _ _ c.loop-i.invariant.1,
+      c.after-d.ensures ∙ depth_step b _ _ c.loop-k.invariant.0,
       elim c.if-d-eq0.branch [
-        | then-d-eq0 w ↦ rw w.first-is (since_here b c.loop-i.i (sym c.loop-i.invariant.1 ∙ w.if-d-eq0.true))
-        | else-d-eq0 w ↦ rw w.first-is (since_more b c.loop-i.first c.loop-i.i c.loop-i.invariant.2 (λ q. w.if-d-eq0.false (c.loop-i.invariant.1 ∙ q)))
+        | then-d-eq0 w ↦ rw w.first-is (since_here b c.loop-k.k (sym c.loop-k.invariant.0 ∙ w.if-d-eq0.true))
+        | else-d-eq0 w ↦ rw w.first-is (since_more b c.loop-k.first c.loop-k.k c.loop-k.invariant.1 (λ q. w.if-d-eq0.false (c.loop-k.invariant.0 ∙ q)))
       ],
     )
 
 pub returns-then-d-eq0-2 : goal.returns-then-d-eq0-2
 returns-then-d-eq0-2 c =
-    let e : c.loop-i.i ≡ length c.args.text.now = omega arith in
-    sym (shut_row (view c.args.text.now) (length c.args.text.now) (ap (depth (view c.args.text.now)) (sym e) ∙ sym c.loop-i.invariant.1 ∙ c.if-d-eq0-2.true))
+    let e : c.loop-k.k ≡ length c.args.text.now = omega arith in
+    sym (shut_row (view c.args.text.now) (length c.args.text.now) (ap (depth (view c.args.text.now)) (sym e) ∙ sym c.loop-k.invariant.0 ∙ c.if-d-eq0-2.true))
 
 pub returns : goal.returns
 returns c =
-    let e : c.loop-i.i ≡ length c.args.text.now = omega arith in
-    sym (leftmost (view c.args.text.now) c.loop-i.first (length c.args.text.now) (rw e at c.loop-i.invariant.2) (λ q. c.if-d-eq0-2.false (c.loop-i.invariant.1 ∙ ap (depth (view c.args.text.now)) e ∙ q)))
+    let e : c.loop-k.k ≡ length c.args.text.now = omega arith in
+    sym (leftmost (view c.args.text.now) c.loop-k.first (length c.args.text.now) (rw e at c.loop-k.invariant.1) (λ q. c.if-d-eq0-2.false (c.loop-k.invariant.0 ∙ ap (depth (view c.args.text.now)) e ∙ q)))
