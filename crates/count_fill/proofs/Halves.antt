@@ -8,6 +8,10 @@ use native.Mathlib.Decide.{dec_le}
 use lib.Dec.{leb}
 use native.Mathlib.Numerals.{add-one}
 use borrow.Author.Tests.{lt-leb, le-leb, leb-true}
+use Rattle.std.proofs.Common.{List, length, get_or}
+use Rattle.std.specs.Bool.{MatchBool}
+use Rattle.std.specs.List.{range_with_len, AllWithin, HoldsAt}
+use Rattle.std.proofs.lemmas.List.FromFn.{length-range_with_len, get_or-range_with_len}
 use Rattle.cells.specs.Rule.{Bases, Cells}
 use Rattle.cells.specs.Tri.{tri}
 use Rattle.cells.specs.Fill.{at, Fine}
@@ -42,14 +46,21 @@ full_half g j = go (column_half (at g) j) refl
     go true e = le-leb (best (fullness g (tri j)) 0 (j + 1)) (j + 1) (full_under g j e)
     go false e = by_cases (dec_le (best (fullness g (tri j)) 0 (j + 1)) (j + 1)) (λ h. absurd (true≢false (sym (under_full g j h) ∙ e))) (λ h. lt-leb (best (fullness g (tri j)) 0 (j + 1)) (j + 1) (omega arith))
 
-module _ (c : Cells ℕ) where
-  pub all_stop : (n j : ℕ) → j < n → column_half c j ≡ false → false ≡ all_half c n
-  unfolding all_half
-  all_stop n j h p = sym (every_stop (column_half c) n j h p)
+-- whether every item of a list passes, said of the places 0 to n - 1
+pub every_item :
+    (f g : ℕ → Bool) (n : ℕ) (xs : List ℕ) (r : Bool) → length xs ≡ n → ((k : ℕ) → k < n → g (get_or xs k 0) ≡ f k) →
+    MatchBool r (AllWithin (λ x. g x ≡ true) xs 0 (length xs)) ((k : ℕ) × (k < length xs) × HoldsAt (λ x. g x ≡ false) xs k) → r ≡ every f n
+every_item f g n xs true l e h = sym (true_every f n (λ k p. sym (e k p) ∙ h k 0 (omega arith) (omega arith)))
+every_item f g n xs false l e h = let p : h.0 < n = omega arith in sym (every_stop f n h.0 p (sym (e h.0 p) ∙ h.2 0))
 
-  pub all_done : (n j : ℕ) → every (column_half c) j ≡ true → j ≡ n → true ≡ all_half c n
+module _ (c : Cells ℕ) where
+  -- the columns, one after the other
+  pub all_columns :
+      (n : ℕ) (r : Bool) → (let xs = range_with_len 0 n in
+      MatchBool r (AllWithin (λ j. column_half c j ≡ true) xs 0 (length xs)) ((k : ℕ) × (k < length xs) × HoldsAt (λ j. column_half c j ≡ false) xs k)) →
+      r ≡ all_half c n
   unfolding all_half
-  all_done n j e p = sym (ap (every (column_half c)) (sym p) ∙ e)
+  all_columns n r h = every_item (column_half c) (column_half c) n (range_with_len 0 n) r (length-range_with_len 0 n) (λ k l. ap (column_half c) (omega (arith, get_or-range_with_len 0 n k 0 l))) h
 
   -- the test passes exactly where every cell is believable
   pub all_fine : (b : Bases) (n : ℕ) → all_half c n ≡ true → Fine (Half b) c n

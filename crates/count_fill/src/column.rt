@@ -8,12 +8,6 @@ ghost use Rattle.count_rule.specs.Rule.{best, paired, nussinov, Half};
 ghost use Rattle.count_fill.specs.Passes.{AnyHalf, Before, begun, Started, Fit, both};
 ghost use Rattle.count_fill.specs.Believable.{fullness, column_half};
 
-fn larger(a: u16, b: u16) -> u16
-    ensures { result ≡ max a b }
-{
-    if a < b { b } else { a }
-}
-
 // The cell (i, j).
 fn read(cells: &[u16], i: usize, j: usize) -> u16
     requires { (i ≤ j) × (j < 65535) × (place i j < length cells.now) }
@@ -46,18 +40,17 @@ fn opening(bases: &[u8], cells: &[u16], i: usize, j: usize, gap: usize) -> u16
     if i == j {
         return 0;
     }
-    larger(read(cells, i, j - 1), with_pair(bases, cells, i, j, gap))
+    read(cells, i, j - 1).max(with_pair(bases, cells, i, j, gap))
 }
 
 // Rows 0 to `from` of column j, which starts at `to`, before any split.
+#[tactic(auto, using(cells::proofs::Places::place_below))]
 fn start(bases: &[u8], cells: &mut [u16], j: usize, to: usize, from: usize, gap: usize)
     requires { (to ≡ tri j) × (from ≤ j) × Before bases.now cells.old j }
     ensures { Started gap (view bases.now) (view cells.old) (view cells.new) j (from + 1) }
 {
-    let mut i = 0;
-    while i <= from {
+    for i in 0..=from {
         cells[to + i] = opening(bases, cells, i, j, gap);
-        i += 1;
     }
 }
 
@@ -67,27 +60,21 @@ fn raise(cells: &mut [u16], col: usize, to: usize, rows: usize, v: u16)
     requires { (col + rows ≤ to) × (to + rows ≤ length cells.old) × Fit (view cells.old) col rows v }
     ensures { Raised max (λ x. x + v) (view cells.old) (view cells.old) (view cells.new) col to rows }
 {
-    let mut i = 0;
-    while i < rows {
-        let one = cells[to + i];
-        let two = cells[col + i] + v;
-        cells[to + i] = larger(one, two);
-        i += 1;
+    for i in 0..rows {
+        cells[to + i] = cells[to + i].max(cells[col + i] + v);
     }
 }
 
 // Every split of rows 0 to `from` of column j, from the last to the first: when (r, j) is final, it is taken into the rows before it.
+#[tactic(auto, using(cells::proofs::Places::tri_step))]
 fn settle(cells: &mut [u16], j: usize, to: usize, from: usize)
     requires { (to ≡ tri j) × (from ≤ j) × (j < 65535) × (tri (j + 1) ≤ length cells.old) × Fine AnyHalf (at (view cells.old)) (j + 1) }
     ensures { Settled max both AnyHalf (view cells.new) (view cells.old) (view cells.new) j from 0 }
 {
-    let mut r = j;
-    let mut col = to;
-    while 0 < r {
+    for r in (1..=j).rev() {
         let v = cells[to + r];
-        col -= r;
-        raise(cells, col, to, cells::smaller(r, from + 1), v);
-        r -= 1;
+        let col = cells::place(0, r - 1);
+        raise(cells, col, to, r.min(from + 1), v);
     }
 }
 
@@ -102,23 +89,14 @@ pub fn rows(bases: &[u8], cells: &mut [u16], j: usize, from: usize, gap: usize)
     settle(cells, j, to, from);
 }
 
-fn fuller(a: u32, b: u32) -> u32
-    ensures { result ≡ max a b }
-{
-    if b < a { a } else { b }
-}
-
 // How full the fullest of so many cells of the column at `to` is: one contiguous pass without a way out, which the compiler can make wide.
 fn fullest(cells: &[u16], to: usize, rows: usize) -> u32
     requires { (to + rows ≤ length cells.now) × (rows < 65536) }
     ensures { result ≡ best (fullness (view cells.now) to) 0 rows }
 {
     let mut most: u32 = 0;
-    let mut i = 0;
-    while i < rows {
-        let v = cells[to + i] as u32;
-        most = fuller(most, 2 * v + i as u32);
-        i += 1;
+    for (i, &v) in cells[to..to + rows].iter().enumerate() {
+        most = most.max(2 * u32::from(v) + i as u32);
     }
     most
 }

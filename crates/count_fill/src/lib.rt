@@ -18,10 +18,8 @@ pub fn columns(bases: &[u8], cells: &mut [u16], first: usize, top: usize, n: usi
         × FineElse (Half (view bases.now)) (at (view cells.old)) first top n }
     ensures { Columns (nussinov gap) Half (view bases.now) (view cells.old) (view cells.new) first top n }
 {
-    let mut j = first;
-    while j < n {
-        column::rows(bases, cells, j, cells::smaller(top, j), gap);
-        j += 1;
+    for j in first..n {
+        column::rows(bases, cells, j, top.min(j), gap);
     }
 }
 
@@ -38,12 +36,5 @@ pub fn believable(cells: &[u16], n: usize) -> bool
     requires { (n < 65535) × (tri n ≤ length cells.now) }
     ensures { result ≡ all_half (at (view cells.now)) n }
 {
-    let mut j = 0;
-    while j < n {
-        if !column::column_half(cells, j) {
-            return false;
-        }
-        j += 1;
-    }
-    true
+    (0..n).all(|j| column::column_half(cells, j))
 }

@@ -1,27 +1,19 @@
-use mathlib.Core.Path.{refl, sym, ◌∙◌}
-use Prim.Native.Nat.{◌+◌}
-use native.Mathlib.Omega.{arith}
-use Rattle.cells.specs.Solve.{every}
+-- `count_fill::believable` meets its contract: it asks each column. Assumes nothing.
+use Rattle.std.proofs.Common.{rules, tests, arith, refl, ◌≡◌, true, false}
+use Rattle.std.proofs.lemmas.Iterator.{cases_from_all, serves_from_Range, YieldsList-from_range}
 use Rattle.cells.proofs.Places.{tri_mono}
-use Rattle.cells.proofs.Solves.{every_more}
-use Rattle.count_fill.proofs.Halves.{all_stop, all_done}
+use Rattle.cells.specs.Fill.{at}
+use Rattle.structure.specs.Table.{view}
+use Rattle.count_fill.specs.Believable.{column_half}
+use Rattle.count_fill.proofs.Halves.{all_columns}
 use Rattle.count_fill.proofs.believable.Goals as goal
 
-pub loop-j-init : goal.loop-j-init
-unfolding every
-loop-j-init c = (omega arith, refl)
-
-pub column_half-requires : goal.column_half-requires
-column_half-requires c = omega (arith, tri_mono (c.loop-j.j + 1) c.args.n (omega arith))
-
-pub returns-then-not-column_half : goal.returns-then-not-column_half
-returns-then-not-column_half c = all_stop _ _ _ (omega arith) (sym c.column_half.ensures ∙ c.if-not-column_half.true)
-
-pub loop-j-preserved : goal.loop-j-preserved
-loop-j-preserved c = (
-  omega arith,
-  every_more _ _ c.loop-j.invariant.1 (sym c.column_half.ensures ∙ c.if-not-column_half.false),
-)
+pub all-requires-clause-callable : goal.all-requires-clause-callable
+all-requires-clause-callable c = serves_from_Range (λ x q k. search (rules, tests)) (λ x low high. search (rules, arith, tri_mono))
 
 pub returns : goal.returns
-returns c = all_done _ _ _ c.loop-j.invariant.1 (omega arith)
+returns c =
+    let f = column_half (at (view c.args.cells.now)) in
+    all_columns (at (view c.args.cells.now)) c.args.n _
+    (cases_from_all _ _ _ (λ j. f j ≡ true) (λ j. f j ≡ false) c.all.ensures.ran (YieldsList-from_range 0 c.args.n c.args.n refl (omega arith))
+    (λ x q k. search (rules, tests)) (λ x q k. search (rules, tests)))

@@ -1,15 +1,9 @@
 -- `count_fill::fill` meets its contract: all columns from 0 on, up to their last rows, are all cells. Assumes nothing.
 use native.Mathlib.Omega.{arith}
-use Rattle.cells.specs.Fill.{at}
-use Rattle.cells.proofs.Fills.{else_filled, filled_right, columns_spare}
-use Rattle.structure.specs.Table.{view}
+use Rattle.cells.proofs.Fills.{filled_right, columns_spare}
 use Rattle.count_rule.specs.Rule.{nussinov, Half}
 use Rattle.count_rule.proofs.Laws.{nussinov_local, nussinov_keeps}
 use Rattle.count_fill.proofs.fill.Goals as goal
-
-pub columns-requires : goal.columns-requires
-columns-requires c =
-    (omega arith, omega arith, omega arith, omega arith, else_filled (Half (view c.args.bases.now)) (at (view c.args.cells.now)) _)
 
 pub returns : goal.returns
 returns c =

@@ -12,7 +12,7 @@ use mathlib.Core.Path.{◌≡◌, ap, ◌∙◌}
 use Rattle.count_fill.proofs.column.column_half.Goals as goal
 
 pub fullest-requires : goal.fullest-requires
-fullest-requires c = (omega (arith, c.place-column.ensures, tri_step c.args.j), omega arith)
+fullest-requires c = omega (arith, tri_step)
 
 pub returns : goal.returns
 returns c =

@@ -15,6 +15,6 @@ read-requires c =
 
 pub returns : goal.returns
 returns c =
-    c.larger.ensures
+    c.max.ensures
     ∙ ap₂ max c.read.ensures c.with_pair.ensures
     ∙ sym (begun_more _ _ _ _ _ (omega arith))

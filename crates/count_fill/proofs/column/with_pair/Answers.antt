@@ -15,9 +15,6 @@ returns-then-not-may_pair c = sym (paired_none _ _ _ _ _ (sym c.may_pair.ensures
 pub read-requires : goal.read-requires
 read-requires c = omega (arith, place_below (c.args.i + 1) (c.args.j - 1) (c.args.j + 1) (omega arith) (omega arith))
 
-pub overflow_add-result : goal.overflow_add-result
-overflow_add-result c = omega (arith, c.requires.1.fine (c.args.i + 1) (c.args.j - 1) (omega arith) (omega arith))
-
 pub returns-then-i-j : goal.returns-then-i-j
 unfolding may_pair
 returns-then-i-j c =
