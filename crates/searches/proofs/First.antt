@@ -1,11 +1,12 @@
 -- Searches as loops make them, and what they say of their tests. Assumes nothing.
-use mathlib.Core.Path.{◌≡◌, refl, ap, subst, ◌∙◌}
+use mathlib.Core.Path.{◌≡◌, refl, ap, subst, sym, ◌∙◌}
 use mathlib.Core.Logic.{by_cases}
 use mathlib.Core.Bool.{Bool, true, false, cond}
 use Prim.Native.Nat.{ℕ, zero, suc, ◌+◌, ◌-◌, ◌<◌, ◌≤◌}
 use native.Mathlib.Decide.{ℕ_discrete}
 use native.Mathlib.Omega.{arith}
 use Rattle.std.proofs.Common.{Option, None, Some}
+use Rattle.std.specs.Option.{MatchOption}
 use Rattle.searches.specs.First.{first_passing}
 
 -- at k, of what is left before j; r is what the test answers there
@@ -65,3 +66,25 @@ unfolding first_passing
 first_same test test' zero k e = refl
 first_same test test' (suc m) k e =
     λ i. cond (e k (omega arith) (omega arith) i) (Some k) (first_same test test' m (k + 1) (λ x p q. e x (omega arith) (omega arith)) i)
+
+-- what `find` answers of a range is the first that passes
+first_by :
+    (test : ℕ → Bool) (k j n : ℕ) (r : Option ℕ) → n ≡ j - k →
+    MatchOption r ((x : ℕ) → k ≤ x → x < j → test x ≡ false)
+    (λ i. (k ≤ i) × (i < j) × (test i ≡ true) × ((x : ℕ) → k ≤ x → x < i → test x ≡ false)) → r ≡ first_passing test k n
+unfolding first_passing
+first_by test k j zero None e h = refl
+first_by test k j zero (Some i) e h = absurd (omega arith)
+first_by test k j (suc n) None e h =
+    simp (h k (omega arith) (omega arith)) (first_by test (k + 1) j n None (omega arith) (λ x p q. h x (omega arith) q))
+first_by test k j (suc n) (Some i) e h = by_cases (ℕ_discrete i k)
+    (λ q. let t : test k ≡ true = ap test (sym q) ∙ h.2 in simp t (ap Some q))
+    (λ q.
+    simp (h.3 k (omega arith) (omega arith))
+    (first_by test (k + 1) j n (Some i) (omega arith) (omega arith, h.1, h.2, λ x p u. h.3 x (omega arith) u)))
+
+pub first_of_range :
+    (test : ℕ → Bool) (k j : ℕ) (r : Option ℕ) →
+    MatchOption r ((x : ℕ) → k ≤ x → x < j → test x ≡ false)
+    (λ i. (k ≤ i) × (i < j) × (test i ≡ true) × ((x : ℕ) → k ≤ x → x < i → test x ≡ false)) → r ≡ first_passing test k (j - k)
+first_of_range test k j r h = first_by test k j (j - k) r refl h
