@@ -5,8 +5,7 @@ use Prim.Native.Nat.{ℕ, ◌+◌, ◌-◌, ◌<◌}
 use native.Mathlib.Omega.{arith}
 use borrow.Author.Tests.{eqb-true, eqb-false, eq-eqb}
 use lib.Dec.{eqb}
-use Rattle.searches.specs.declared.Found.{Found}
-use Rattle.searches.specs.declared.Found.TheVariants.{At, Nothing}
+use Rattle.std.proofs.Common.{Option, None, Some}
 use Rattle.searches.proofs.First.{first_found, first_missed}
 use Rattle.cells.specs.Rule.{Cells, span}
 use Rattle.count_trace.specs.Choosing.{closes_of, split_at, split_of, or_last, choice}
@@ -37,13 +36,13 @@ module _ (c : Cells ℕ) (p : ℕ → ℕ → Bool) (i j : ℕ) where
 
   -- the last two, where the first two fail
   split_why :
-      (f : Found) → split_of c i j (c i j) ≡ f → (c i j ≡ c (i + 1) j → ⊥) → (p i j ≡ true → c i j ≡ span c (i + 1) j + 1 → ⊥) →
+      (f : Option ℕ) → split_of c i j (c i j) ≡ f → (c i j ≡ c (i + 1) j → ⊥) → (p i j ≡ true → c i j ≡ span c (i + 1) j + 1 → ⊥) →
       Why c p i j (or_last f)
   unfolding split_of split_at
-  split_why (At k) e a b =
+  split_why (Some k) e a b =
       let r = first_found _ (j - (i + 1)) (i + 1) k e in
       split k (omega arith) (omega arith) (sym (eqb-true _ _ r.2))
-  split_why Nothing e a b =
+  split_why None e a b =
       last a b
       (λ k h l q. true≢false (sym (eq-eqb _ _ (sym q)) ∙ first_missed _ (j - (i + 1)) (i + 1) e k (omega arith) (omega arith)))
 
