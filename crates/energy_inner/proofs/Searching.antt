@@ -12,7 +12,6 @@ use Rattle.cells.specs.Tri.{tri, place}
 use Rattle.cells.specs.Rule.{Bases}
 use Rattle.cells.specs.Fill.{at, Fine}
 use Rattle.cells.proofs.Places.{tri_below}
-use Rattle.cells.proofs.Passes.{tri_back}
 use Rattle.ints.specs.Ints.{minℤ, mark, add_e, min_from, Small}
 use Rattle.ints.proofs.Ints.{ints, sum, either}
 use Rattle.ints.proofs.Minima.{less, min_by, min_l, min_le_l, min_le_r, add_by, add_some, add_none_l, least_le, least_real, least_cap, least_more}
@@ -64,10 +63,10 @@ near_cap v s i j = least_cap _ _ _
 
 -- a run is a side, as the loop has it
 pub side_run :
-    (v s : ℕ → ℤ) (i j r q col lo hi : ℕ) → col ≡ place (i + 1) q → lo ≡ 2 - r → hi ≡ min (suc longest_side) (q + 1 - low_end i) → q ≡ j - 1 - r →
+    (v s : ℕ → ℤ) (i j r col lo hi : ℕ) → col ≡ place (i + 1) (j - 1 - r) → lo ≡ 2 - r → hi ≡ min (suc longest_side) (j - 1 - r + 1 - low_end i) →
     min_from (charged v s col (suc longest_side * r)) lo (hi - lo) ≡ side v s i j r
 unfolding side_to side
-side_run v s i j r q col lo hi a b d e = rw (a, b, d, e) refl
+side_run v s i j r col lo hi a b d = rw (a, b, d) refl
 
 -- the right side r ends at q
 pub record Ends (i j q r : ℕ) : Type 0 where
@@ -75,8 +74,8 @@ pub record Ends (i j q r : ℕ) : Type 0 where
   pub within : q < j
   pub few : r ≤ longest_side
 
-pub ends_at : (i j q r n : ℕ) → q + r + 1 ≡ j → r < n → n ≡ min (suc longest_side) (j - low_end i) → Ends i j q r
-ends_at i j q r n e h m = record { far = omega arith; within = omega arith; few = omega arith }
+pub ends_at : (i j r n : ℕ) → r < n → n ≡ min (suc longest_side) (j - low_end i) → Ends i j (j - 1 - r) r
+ends_at i j r n h m = record { far = omega arith; within = omega arith; few = omega arith }
 
 module _ (i j q r hi : ℕ) (e : Ends i j q r) (m : hi ≡ min (suc longest_side) (q + 1 - low_end i)) where
   pub side_room : (col len : ℕ) → col ≡ place (i + 1) q → tri j ≤ len → col + hi ≤ len
@@ -97,31 +96,6 @@ module _ (i j q r hi : ℕ) (e : Ends i j q r) (m : hi ≡ min (suc longest_side
       let f = e.few in
       let g = side_in l r (omega arith) in
       rw (t.each l r (omega arith) f) (record { low = omega ints; high = omega (ints, figure_low) })
-
--- one column back
-pub col_back : (i j q r col : ℕ) → Ends i j q r → col ≡ place (i + 1) q → (q ≤ col) × (col - q ≡ place (i + 1) (q - 1))
-col_back i j q r col e c = let f = e.far in omega (arith, tri_back q (omega arith))
-
-pub q_back : (i j q r : ℕ) → Ends i j q r → q + r + 1 ≡ j → (1 ≤ q) × (q - 1 + (r + 1) + 1 ≡ j)
-q_back i j q r e c = let f = e.far in omega arith
-
-pub falls : (n r : ℕ) → r < n → n - (r + 1) < n - r
-falls n r h = omega arith
-
-pub next : (n r : ℕ) → r < n → r + 1 ≤ n
-next n r h = omega arith
-
-pub same_count : (n r : ℕ) → r ≤ n → n ≤ r → r ≡ n
-same_count n r h l = omega arith
-
-pub at_end : (j q r : ℕ) → q + r + 1 ≡ j → q ≡ j - 1 - r
-at_end j q r e = omega arith
-
-pub long_enough : {a b c : ℕ} → a ≤ b → c ≡ b → a ≤ c
-long_enough h e = omega arith
-
-pub from_low : (r : ℕ) {lo l : ℕ} → lo ≡ 2 - r → lo ≤ l → 2 - r ≤ l
-from_low r e h = omega arith
 
 -- ---- candidates
 module _ (b : Bases) (v : Table) (i j x y : ℕ) where

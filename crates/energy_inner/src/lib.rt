@@ -14,12 +14,11 @@ ghost use Rattle.energy_rule.specs.Rule.{inner_at, interior};
 ghost use Rattle.energy_rule.specs.Memory.{nums, table};
 ghost use Rattle.energy_inner.specs.Search.{InRange, Smalls, Charge, charged, near, Before};
 
-// By how much a is above b.
-fn above(a: usize, b: usize) -> usize
-    ensures { result ≡ a - b }
-{
-    if b < a { a - b } else { 0 }
-}
+use figures::{LONGEST_SIDE, SMALLEST_HAIRPIN};
+use ints::MARK;
+
+// How many lengths a side of a loop may have, from 0 on.
+const LENGTHS: usize = LONGEST_SIDE + 1;
 
 // The least of the cells `from + l` with the charges `row + l`, l from `lo` to before `hi`.
 // No test for the mark: with a charge it is no less.
@@ -28,43 +27,32 @@ fn run(paired: &[i32], sides: &[i32], from: usize, row: usize, lo: usize, hi: us
     requires by_index { (l : ℕ) → lo ≤ l → l < hi → Charge (nums sides.now (row + l)) }
     ensures { result ≡ min_from (charged (nums paired.now) (nums sides.now) from row) lo (hi - lo) }
 {
-    let mut best = ints::MARK;
-    let mut l = lo;
-    while l < hi {
+    let mut best = MARK;
+    for l in lo..hi {
         let x = ints::add(ints::cell(paired, from + l), ints::cell(sides, row + l));
         best = ints::least(best, x);
-        l += 1;
     }
     best
 }
 
 // The least of the inner pairs with two bases or more beside them:
 // one run for each right side, whose cells and charges both lie side by side.
+#[tactic(auto, using(figures::proofs::Charges::longest_low, crate::proofs::Searching::near_none))]
 fn near(paired: &[i32], sides: &[i32], i: usize, j: usize) -> i32
     requires { (i + smallest_hairpin < j) × (j < longest + 2) × (tri j ≤ length paired.now)
         × Fine InRange (at (nums paired.now)) j × Sides sides.now }
     ensures { result ≡ near (nums paired.now) (nums sides.now) i j }
 {
-    let low = i + 2 + figures::SMALLEST_HAIRPIN;
-    let count = cells::smaller(figures::LONGEST_SIDE + 1, above(j, low));
-    let mut best = ints::MARK;
-    let mut r = 0;
-    let mut q = j - 1;
-    let mut col = cells::place(i + 1, q);
-    while r < count {
-        let hi = cells::smaller(figures::LONGEST_SIDE + 1, q + 1 - low);
-        let x = run(
-            paired,
-            sides,
-            col,
-            (figures::LONGEST_SIDE + 1) * r,
-            above(2, r),
-            hi,
-        );
+    let low = i + 2 + SMALLEST_HAIRPIN;
+    let count = LENGTHS.min(j.saturating_sub(low));
+    let mut best = MARK;
+    for r in 0..count {
+        let q = j - 1 - r;
+        let col = cells::place(i + 1, q);
+        let lo = 2usize.saturating_sub(r);
+        let hi = LENGTHS.min(q + 1 - low);
+        let x = run(paired, sides, col, LENGTHS * r, lo, hi);
         best = ints::least(best, x);
-        col -= q;
-        q -= 1;
-        r += 1;
     }
     best
 }
@@ -76,13 +64,14 @@ fn one(bases: &[u8], paired: &[i32], i: usize, j: usize, x: usize, y: usize) -> 
     ensures { result ≡ inner_at (view bases.now) (table paired.now) i j x y }
 {
     if !closing::may_close(bases, x, y) {
-        return ints::MARK;
+        return MARK;
     }
     let at = cells::place(x, y);
     ints::plus(ints::cell(paired, at), closing::own(bases, i, j, x, y))
 }
 
 // The least with one inner pair.
+#[tactic(auto, using(energy_rule::proofs::Parts::may_far, figures::proofs::Charges::longest_low))]
 pub fn interior(bases: &[u8], sides: &[i32], paired: &[i32], i: usize, j: usize) -> i32
     requires { Before bases.now paired.now j × Sides sides.now × (may_close (view bases.now) i j ≡ true) }
     ensures { result ≡ interior (view bases.now) (table paired.now) i j }

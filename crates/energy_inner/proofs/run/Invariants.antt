@@ -7,7 +7,5 @@ use Rattle.energy_inner.specs.Search.{charged}
 use Rattle.energy_inner.proofs.run.Given as goal
 
 abbrev pub invariant-loop-l : goal.invariant-loop-l
-invariant-loop-l l = (l.lo ≤ l.l) × (l.l ≤ max l.lo l.hi) × (l.best ≡ min_from (charged (nums l.paired) (nums l.sides) l.from l.row) l.lo (l.l - l.lo))
-
-abbrev pub decreases-loop-l : goal.decreases-loop-l
-decreases-loop-l l = l.hi - l.l
+invariant-loop-l l =
+    (l.l ≤ max l.lo l.hi) × (l.best ≡ min_from (charged (nums l.paired) (nums l.sides) l.from l.row) l.lo (l.l - l.lo))
