@@ -136,14 +136,13 @@ range_step i k j v x y h l p q r =
         (λ _. omega (ints, floor_is i j))
 
 -- what a pass and a store make of the split after k
-module _ (g g' : ℕ → ℤ) (j from k r col to n : ℕ) (v : ℤ) (e : r ≡ k + 1) (c : col ≡ tri k) (w : to ≡ tri j) (s : n ≡ min k (from + 1)) (x : v ≡ at g r j)
+module _ (g g' : ℕ → ℤ) (j from k col to n : ℕ) (v : ℤ) (c : col ≡ tri k) (w : to ≡ tri j) (s : n ≡ min k (from + 1)) (x : v ≡ at g (k + 1) j)
     (d : Raised minℤ (λ x. add_e x v) g g g' col to n) where
   passed : (i : ℕ) → i < k → i ≤ from → at g' i j ≡ minℤ (at g i j) (parts link (at g) i j k)
   passed i h m =
       ap (λ y. g' (y + i)) (sym w)
       ∙ d.each i (omega arith)
-      ∙ ap₂ minℤ (ap (λ y. g (y + i)) w)
-      (ap₂ add_e (ap (λ y. g (y + i)) c) (x ∙ ap (λ y. at g y j) e) ∙ link_far i k _ _ (λ q. omega arith))
+      ∙ ap₂ minℤ (ap (λ y. g (y + i)) w) (ap₂ add_e (ap (λ y. g (y + i)) c) x ∙ link_far i k _ _ (λ q. omega arith))
 
   pub taken_far : from < k → Taken minℤ link g g g' j from k
   taken_far h =
@@ -168,7 +167,7 @@ module _ (g g' : ℕ → ℤ) (j from k r col to n : ℕ) (v : ℤ) (e : r ≡ k
           ap g'' (sym q)
           ∙ put.here
           ∙ t
-          ∙ ap₂ minℤ (ap g' q ∙ d.right (place k j) (omega arith)) (x ∙ ap (λ y. at g y j) e ∙ link_own k _ _)
+          ∙ ap₂ minℤ (ap g' q ∙ d.right (place k j) (omega arith)) (x ∙ link_own k _ _)
 
 -- ---- all splits together
 -- one more in front of a run

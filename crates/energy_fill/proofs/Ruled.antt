@@ -109,8 +109,8 @@ module _ (b : Bases) (v₀ w₀ m₀ : ℕ → ℤ) (j from : ℕ) (h : from ≤
         (λ q. subst (InRange i j) (sym (sv.each i (omega arith))) (closed_range b (at v₀) (at m₀) j before_paired before_arms i p))
         (less_or from i)
 
-    pub paired_smalls : (to : ℕ) → to ≡ tri j → j < longest + 2 → Smalls v to (from + 1)
-    paired_smalls to e o i p = rw e (range_small i j (at v i j) o (paired_all i (omega arith)))
+    pub paired_smalls : j < longest + 2 → Smalls v (tri j) (from + 1)
+    paired_smalls o i p = range_small i j (at v i j) o (paired_all i (omega arith))
 
     -- the arms are started
     pub arms_fine : (m₁ : ℕ → ℤ) → Started (begun arm_charge mark (at v) (at m₀) j) m₀ m₁ j (from + 1) → Fine InRange (at m₁) (j + 1)

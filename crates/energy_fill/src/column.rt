@@ -13,89 +13,57 @@ ghost use Rattle.energy_rule.specs.Memory.{nums, table, three, Room};
 ghost use Rattle.energy_inner.specs.Search.{InRange, Smalls, Before};
 ghost use Rattle.energy_fill.specs.Passes.{Started, closed, begun, link};
 
+use figures::{ARM, CLOSING};
+use ints::MARK;
+
 // The least with i and j paired: a hairpin, one inner pair, or arms.
+#[tactic(auto, using(energy_rule::proofs::Parts::may_far, figures::proofs::Charges::longest_low, cells::proofs::Places::place_below))]
 fn close(bases: &[u8], sides: &[i32], paired: &[i32], arms: &[i32], i: usize, j: usize) -> i32
     requires { (i ≤ j) × Before bases.now paired.now j × Sides sides.now × (tri j ≤ length arms.now)
         × Fine InRange (at (nums arms.now)) j }
     ensures { result ≡ closed (view bases.now) (table paired.now) (table arms.now) j i }
 {
     if !closing::may_close(bases, i, j) {
-        return ints::MARK;
+        return MARK;
     }
     let hairpin = closing::hairpin_at(bases, i, j);
     let interior = energy_inner::interior(bases, sides, paired, i, j);
     let at = cells::place(i + 1, j - 1);
-    let many = ints::plus(ints::cell(arms, at), figures::CLOSING as i32);
+    let many = ints::plus(ints::cell(arms, at), CLOSING as i32);
     ints::least(ints::least(hairpin, interior), many)
 }
 
 // Rows 0 to `from` of column j of the paired cells: they read the columns before alone.
-fn close_all(
-    bases: &[u8],
-    sides: &[i32],
-    paired: &mut [i32],
-    arms: &[i32],
-    j: usize,
-    to: usize,
-    from: usize,
-)
-    requires { (to ≡ tri j) × (from ≤ j) × (tri (j + 1) ≤ length paired.old) × Before bases.now paired.old j
+#[tactic(auto, using(figures::proofs::Charges::longest_low, cells::proofs::Places::tri_step))]
+fn close_all(bases: &[u8], sides: &[i32], paired: &mut [i32], arms: &[i32], j: usize, from: usize)
+    requires { (from ≤ j) × (tri (j + 1) ≤ length paired.old) × Before bases.now paired.old j
         × Sides sides.now × (tri j ≤ length arms.now) × Fine InRange (at (nums arms.now)) j }
     ensures { Started (closed (view bases.now) (table paired.old) (table arms.now) j) (nums paired.old) (nums paired.new) j (from + 1) }
 {
-    let mut i = 0;
-    while i <= from {
-        let x = close(bases, sides, paired, arms, i, j);
-        paired[to + i] = x;
-        i += 1;
+    let to = cells::place(0, j);
+    for i in 0..=from {
+        paired[to + i] = close(bases, sides, paired, arms, i, j);
     }
 }
 
-// What the rows before `rows` of column j hold before any split: i with j for a charge, or j unpaired, and no more than a limit.
-fn begin(
-    paired: &[i32],
-    cells: &mut [i32],
-    j: usize,
-    to: usize,
-    rows: usize,
-    charge: i32,
-    limit: i32,
-)
-    requires { (to ≡ tri j) × (rows ≤ j) × (tri (j + 1) ≤ length paired.now) × (tri (j + 1) ≤ length cells.old)
-        × Small charge × Smalls (nums paired.now) to rows }
-    ensures { Started (begun charge limit (table paired.now) (table cells.old) j) (nums cells.old) (nums cells.new) j rows }
-{
-    let back = to - j;
-    let mut i = 0;
-    while i < rows {
-        let closed = ints::plus(ints::cell(paired, to + i), charge);
-        let open = ints::cell(cells, back + i);
-        let x = ints::least(ints::least(limit, closed), open);
-        cells[to + i] = x;
-        i += 1;
-    }
-}
-
-// Rows 0 to `from` of column j before any split: the cell of one base holds the limit.
-fn start(
-    paired: &[i32],
-    cells: &mut [i32],
-    j: usize,
-    to: usize,
-    from: usize,
-    charge: i32,
-    limit: i32,
-)
-    requires { (to ≡ tri j) × (from ≤ j) × (tri (j + 1) ≤ length paired.now) × (tri (j + 1) ≤ length cells.old)
-        × Small charge × Smalls (nums paired.now) to (from + 1) }
+// Rows 0 to `from` of column j before any split: i with j for a charge, or j unpaired, and no more than a limit,
+// which is what the cell of one base holds.
+#[tactic(auto, using(figures::proofs::Charges::longest_low, cells::proofs::Places::tri_step, crate::proofs::Passes::tri_wide))]
+fn start(paired: &[i32], cells: &mut [i32], j: usize, from: usize, charge: i32, limit: i32)
+    requires { (from ≤ j) × (j < longest + 2) × (tri (j + 1) ≤ length paired.now) × (tri (j + 1) ≤ length cells.old)
+        × Small charge × Smalls (nums paired.now) (tri j) (from + 1) }
     ensures { Started (begun charge limit (table paired.now) (table cells.old) j) (nums cells.old) (nums cells.new) j (from + 1) }
 {
-    let rows = cells::smaller(j, from + 1);
-    begin(paired, cells, j, to, rows, charge, limit);
-    if from < j {
-        return;
+    let to = cells::place(0, j);
+    let back = to - j;
+    for i in 0..j.min(from + 1) {
+        let closed = ints::plus(ints::cell(paired, to + i), charge);
+        let open = ints::cell(cells, back + i);
+        cells[to + i] = ints::least(ints::least(limit, closed), open);
     }
-    ints::store(cells, to + j, limit);
+    if from == j {
+        cells[to + j] = limit;
+    }
 }
 
 // One pass: the rows of the column at `col`, each with `v`, are taken into the column at `to`.
@@ -104,57 +72,38 @@ fn lower(cells: &mut [i32], col: usize, to: usize, rows: usize, v: i32)
     requires { (col + rows ≤ to) × (to + rows ≤ length cells.old) × Small v × Smalls (nums cells.old) col rows }
     ensures { Raised minℤ (λ x. add_e x v) (nums cells.old) (nums cells.old) (nums cells.new) col to rows }
 {
-    let mut i = 0;
-    while i < rows {
-        let one = ints::cell(cells, to + i);
+    for i in 0..rows {
         let two = ints::plus(ints::cell(cells, col + i), v);
-        let x = ints::least(one, two);
-        cells[to + i] = x;
-        i += 1;
+        cells[to + i] = ints::least(ints::cell(cells, to + i), two);
     }
 }
 
-// One cell.
-fn lift(cells: &mut [i32], at: usize, v: i32)
-    requires { at < length cells.old }
-    ensures { cells.new ≡ set cells.old at (minℤ (nums cells.old at) v) }
+// The split after k of rows 0 to `from` of column j. In row k it leaves that base unpaired, whatever its own cell holds.
+#[tactic(auto, using(figures::proofs::Charges::longest_low, cells::proofs::Places::tri_step, cells::proofs::Places::tri_below))]
+fn take(cells: &mut [i32], j: usize, from: usize, k: usize)
+    requires { (k < j) × (from ≤ j) × (j < longest + 2) × (tri (j + 1) ≤ length cells.old) × Fine InRange (at (nums cells.old)) (j + 1) }
+    ensures { Taken minℤ link (nums cells.old) (nums cells.old) (nums cells.new) j from k }
 {
-    let one = ints::cell(cells, at);
-    let x = ints::least(one, v);
-    cells[at] = x;
-}
-
-// The split after r - 1 of rows 0 to `from` of column j. In row r - 1 it leaves that base unpaired, whatever its own cell holds.
-fn take(cells: &mut [i32], j: usize, col: usize, to: usize, from: usize, r: usize, v: i32)
-    requires { (0 < r) × (r ≤ j) × (from ≤ j) × (j < longest + 2) × (to ≡ tri j) × (col ≡ tri (r - 1))
-        × (tri (j + 1) ≤ length cells.old) × (v ≡ at (nums cells.old) r j)
-        × Fine InRange (at (nums cells.old)) (j + 1) }
-    ensures { Taken minℤ link (nums cells.old) (nums cells.old) (nums cells.new) j from (r - 1) }
-{
-    lower(cells, col, to, cells::smaller(r - 1, from + 1), v);
-    if from + 1 < r {
-        return;
+    let to = cells::place(0, j);
+    let v = ints::cell(cells, to + k + 1);
+    lower(cells, cells::place(0, k), to, k.min(from + 1), v);
+    if k <= from {
+        cells[to + k] = ints::least(ints::cell(cells, to + k), v);
     }
-    lift(cells, to + r - 1, v);
 }
 
-// Every split of rows 0 to `from` of column j, from the last to the first: when (r, j) is final, it is taken into the rows before it.
-fn settle(cells: &mut [i32], j: usize, to: usize, from: usize)
-    requires { (to ≡ tri j) × (from ≤ j) × (j < longest + 2) × (tri (j + 1) ≤ length cells.old)
-        × Fine InRange (at (nums cells.old)) (j + 1) }
+// Every split of rows 0 to `from` of column j, from the last to the first: when (k + 1, j) is final, it is taken into the rows before it.
+fn settle(cells: &mut [i32], j: usize, from: usize)
+    requires { (from ≤ j) × (j < longest + 2) × (tri (j + 1) ≤ length cells.old) × Fine InRange (at (nums cells.old)) (j + 1) }
     ensures { Settled minℤ link InRange (nums cells.new) (nums cells.old) (nums cells.new) j from 0 }
 {
-    let mut r = j;
-    let mut col = to;
-    while 0 < r {
-        let v = ints::cell(cells, to + r);
-        col -= r;
-        take(cells, j, col, to, from, r, v);
-        r -= 1;
+    for k in (0..j).rev() {
+        take(cells, j, from, k);
     }
 }
 
 // Rewrites column j from row `from` to row 0: the paired cells first, then the arms and any structure, each started and settled.
+#[tactic(auto, using(cells::proofs::Places::tri_step, crate::proofs::Ruled::before_paired, crate::proofs::Ruled::before_arms))]
 pub fn rows(
     bases: &[u8],
     sides: &[i32],
@@ -168,10 +117,9 @@ pub fn rows(
     requires fine_from { FineFrom (Ranged (view bases.now)) (at (three paired.old any.old arms.old)) (from + 1) j }
     ensures { Rows energies Ranged (view bases.now) (three paired.old any.old arms.old) (three paired.new any.new arms.new) j from 0 }
 {
-    let to = cells::place(0, j);
-    close_all(bases, sides, paired, arms, j, to, from);
-    start(paired, arms, j, to, from, figures::ARM as i32, ints::MARK);
-    settle(arms, j, to, from);
-    start(paired, any, j, to, from, 0, 0);
-    settle(any, j, to, from);
+    close_all(bases, sides, paired, arms, j, from);
+    start(paired, arms, j, from, ARM as i32, MARK);
+    settle(arms, j, from);
+    start(paired, any, j, from, 0, 0);
+    settle(any, j, from);
 }

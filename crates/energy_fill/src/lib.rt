@@ -14,6 +14,7 @@ ghost use Rattle.energy_fill.specs.Filled.{Filled};
 mod column;
 
 // Rewrites the columns from `first` to before `n`, each from row `top` or its last to row 0.
+// The tables stand apart: in a struct of the three `&mut`, a call that lends two of them at once has no rule of the borrow checker.
 pub fn columns(
     bases: &[u8],
     sides: &[i32],
@@ -29,11 +30,8 @@ pub fn columns(
     ensures { Columns energies Ranged (view bases.now) (three paired.old any.old arms.old)
         (three paired.new any.new arms.new) first top n }
 {
-    let mut j = first;
-    while j < n {
-        let from = cells::smaller(top, j);
-        column::rows(bases, sides, paired, any, arms, j, from);
-        j += 1;
+    for j in first..n {
+        column::rows(bases, sides, paired, any, arms, j, top.min(j));
     }
 }
 

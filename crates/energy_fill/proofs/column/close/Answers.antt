@@ -3,10 +3,8 @@ use mathlib.Core.Path.{◌≡◌, sym, ap, ap₂, ◌∙◌}
 use Prim.Native.Nat.{◌+◌, ◌-◌}
 use native.Mathlib.Omega.{arith}
 use Rattle.structure.specs.Table.{view}
-use Rattle.cells.proofs.Places.{place_below}
 use Rattle.ints.specs.Ints.{minℤ, add_e}
 use Rattle.ints.proofs.Ints.{ints, back, is}
-use Rattle.figures.proofs.Charges.{longest_low}
 use Rattle.energy_rule.specs.Memory.{nums, table}
 use Rattle.energy_rule.specs.Rule.{closing_charge}
 use Rattle.energy_rule.proofs.Ruling.{paired_none}
@@ -17,23 +15,6 @@ use Rattle.energy_fill.proofs.column.close.Goals as goal
 
 pub returns-then-not-may_close : goal.returns-then-not-may_close
 returns-then-not-may_close c = sym (paired_none _ _ _ _ _ (sym c.may_close.ensures ∙ c.if-not-may_close.true))
-
-pub hairpin_at-hairpin-requires : goal.hairpin_at-hairpin-requires
-hairpin_at-hairpin-requires c = let w = may_far (view c.args.bases.now) c.args.i c.args.j (sym c.may_close.ensures ∙ c.if-not-may_close.false) in (c.requires.1.base, omega arith, omega arith)
-
-pub interior-interior-requires : goal.interior-interior-requires
-interior-interior-requires c = (c.requires.1, c.requires.2, sym c.may_close.ensures ∙ c.if-not-may_close.false)
-
-pub overflow_sub-j : goal.overflow_sub-j
-overflow_sub-j c = let w = may_far (view c.args.bases.now) c.args.i c.args.j (sym c.may_close.ensures ∙ c.if-not-may_close.false) in omega arith
-
-pub place-at-requires : goal.place-at-requires
-place-at-requires c = let w = may_far (view c.args.bases.now) c.args.i c.args.j (sym c.may_close.ensures ∙ c.if-not-may_close.false) in omega (arith, longest_low)
-
-pub cell-requires : goal.cell-requires
-cell-requires c =
-    let w = may_far (view c.args.bases.now) c.args.i c.args.j (sym c.may_close.ensures ∙ c.if-not-may_close.false) in
-    omega (arith, c.place-at.ensures, place_below (c.args.i + 1) (c.args.j - 1) c.args.j (omega arith) (omega arith))
 
 pub plus-many-requires : goal.plus-many-requires
 plus-many-requires c =

@@ -1,14 +1,8 @@
 -- `energy_fill::column::lower` meets its contract. The loop's invariant: the rows before `i` are lowered, and nothing else. Assumes nothing.
-use mathlib.Core.Path.{◌≡◌}
-use Prim.Native.Nat.{◌-◌, ◌≤◌}
-use lib.ListN.{length}
 use Rattle.cells.specs.Pass.{Raised}
 use Rattle.ints.specs.Ints.{minℤ, add_e}
 use Rattle.energy_rule.specs.Memory.{nums}
 use Rattle.energy_fill.proofs.column.lower.Given as goal
 
 abbrev pub invariant-loop-i : goal.invariant-loop-i
-invariant-loop-i l = (l.i ≤ l.rows) × (length l.cells ≡ length l.initial.cells) × Raised minℤ (λ x. add_e x l.v) (nums l.initial.cells) (nums l.initial.cells) (nums l.cells) l.col l.to l.i
-
-abbrev pub decreases-loop-i : goal.decreases-loop-i
-decreases-loop-i l = l.rows - l.i
+invariant-loop-i l = Raised minℤ (λ x. add_e x l.v) (nums l.initial.cells) (nums l.initial.cells) (nums l.cells) l.col l.to l.i
