@@ -8,15 +8,6 @@ ghost use Rattle.count_rule.specs.Rule.{best, paired, nussinov, Half};
 ghost use Rattle.count_fill.specs.Passes.{AnyHalf, Before, begun, Started, Fit, both};
 ghost use Rattle.count_fill.specs.Believable.{fullness, column_half};
 
-// The cell (i, j).
-fn read(cells: &[u16], i: usize, j: usize) -> u16
-    requires { (i ≤ j) × (j < 65535) × (place i j < length cells.now) }
-    ensures { result ≡ at (view cells.now) i j }
-{
-    let at = cells::place(i, j);
-    cells[at]
-}
-
 // i with j, where they may pair.
 fn with_pair(bases: &[u8], cells: &[u16], i: usize, j: usize, gap: usize) -> u16
     requires { (i < j) × Before bases.now cells.now j }
@@ -26,7 +17,7 @@ fn with_pair(bases: &[u8], cells: &[u16], i: usize, j: usize, gap: usize) -> u16
         return 0;
     }
     if i + 1 < j {
-        read(cells, i + 1, j - 1) + 1
+        cells::cell(cells, i + 1, j - 1) + 1
     } else {
         1
     }
@@ -40,7 +31,7 @@ fn opening(bases: &[u8], cells: &[u16], i: usize, j: usize, gap: usize) -> u16
     if i == j {
         return 0;
     }
-    read(cells, i, j - 1).max(with_pair(bases, cells, i, j, gap))
+    cells::cell(cells, i, j - 1).max(with_pair(bases, cells, i, j, gap))
 }
 
 // Rows 0 to `from` of column j, which starts at `to`, before any split.
@@ -55,14 +46,15 @@ fn start(bases: &[u8], cells: &mut [u16], j: usize, to: usize, from: usize, gap:
 }
 
 // One pass: the rows of the column at `col`, each plus `v`, are taken into the column at `to`.
-// Stored without a test, so that it stays fast.
 fn raise(cells: &mut [u16], col: usize, to: usize, rows: usize, v: u16)
     requires { (col + rows ≤ to) × (to + rows ≤ length cells.old) × Fit (view cells.old) col rows v }
     ensures { Raised max (λ x. x + v) (view cells.old) (view cells.old) (view cells.new) col to rows }
 {
-    for i in 0..rows {
-        cells[to + i] = cells[to + i].max(cells[col + i] + v);
-    }
+    let larger = |near: u16, far: u16| -> u16
+        requires { far + v < 65536 }
+        ensures { result ≡ max near (far + v) }
+    { near.max(far + v) };
+    cells::pass(cells, col, to, rows, larger);
 }
 
 // Every split of rows 0 to `from` of column j, from the last to the first: when (r, j) is final, it is taken into the rows before it.

@@ -68,10 +68,11 @@ impl Fold<'_> {
     }
 
     // The cell (i, j).
+    #[tactic(auto, using(cells::proofs::Passes::cell_at))]
     fn cell(&self, i: usize, j: usize) -> usize
         requires { (i ≤ j) × (j < 65535) × (place i j < length self.now.cells.now) }
         ensures { (result ≡ counts self.now i j) × (result < 65536) }
     {
-        usize::from(self.cells[cells::place(i, j)])
+        usize::from(cells::cell(self.cells, i, j))
     }
 }
