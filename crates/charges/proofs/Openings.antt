@@ -1,7 +1,7 @@
 -- What is known where a pair opens in a chargeable table: its inside folds, its inner pairs are in reach, its loop has a figure, and sums of charges stay small.
 use mathlib.Core.Path.{◌≡◌, refl, sym, ap, ◌∙◌}
 use mathlib.Core.Logic.{◌≢◌, ◌⊎◌, inl, inr, ⊎_elim, by_cases}
-use mathlib.Core.Bool.{true, true≢false, cond}
+use mathlib.Core.Bool.{Bool, true, false, true≢false, cond}
 use mathlib.Core.List.{List}
 use Prim.Native.Nat.{ℕ, zero, suc, ◌+◌, ◌-◌, ◌*◌, ◌<◌, ◌≤◌}
 use native.Mathlib.Omega.{arith}
@@ -36,6 +36,11 @@ opening_true k v e =
     by_cases (ℕ_discrete v unpaired)
     (λ q. absurd (true≢false (sym e ∙ shut_none k v q)))
     (λ n. by_cases (dec_lt k v) (λ h. (h, n)) (λ h. absurd (true≢false (sym e ∙ shut_low k v (omega arith)))))
+
+-- what the test that a position opens a pair tells
+pub opens_is : (r : Bool) (k v : ℕ) → cond r 1 0 ≡ opens k v → r ≡ opening k v
+opens_is true k v e = sym (eq-eqb (opens k v) 1 (sym e))
+opens_is false k v e = sym (ne_eqb (opens k v) 1 (λ q. omega arith))
 
 -- the inside of any pair of a span that folds
 pub inside_folds : (p : ℕ → ℕ) {lo hi : ℕ} → Fold p lo hi → (i : ℕ) → lo ≤ i → i < p i → p i < hi → Fold p (suc i) (p i)

@@ -12,7 +12,7 @@ fn past(k: usize, v: u16) -> usize
     if v == 65535 {
         return k + 1;
     }
-    v as usize + 1
+    usize::from(v) + 1
 }
 
 // How many pairs lie from lo up to hi and in no other pair there.
@@ -20,27 +20,27 @@ pub fn arms_in(pairs: &[u16], lo: usize, hi: usize) -> usize
     requires { (lo ≤ hi) × (hi ≤ length pairs.now) × Fold (view pairs.now) lo hi }
     ensures { result ≡ arms_in (view pairs.now) lo hi }
 {
-    let mut arms: usize = 0;
+    let mut arms = 0;
     let mut k = lo;
+    // No range goes from pair to pair: each turn says where the next one is.
     while k < hi {
         let v = pairs[k];
-        arms += structure::opening(k, v);
+        arms += usize::from(structure::opens(k, v));
         k = past(k, v);
     }
     arms
 }
 
-// The first place from lo up to hi that opens a pair; hi where none does.
+// The first place from lo up to hi that opens a pair; hi where none does, as `first_in` of specs/Loops.antt has it, by which a
+// loop's charge is defined.
 pub fn first_in(pairs: &[u16], lo: usize, hi: usize) -> usize
     requires { (lo ≤ hi) × (hi ≤ length pairs.now) }
     ensures { result ≡ first_in (view pairs.now) lo hi }
 {
-    let mut k = lo;
-    while k < hi {
-        if structure::opening(k, pairs[k]) == 1 {
+    for k in lo..hi {
+        if structure::opens(k, pairs[k]) {
             return k;
         }
-        k += 1;
     }
-    k
+    hi
 }

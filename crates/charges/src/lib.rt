@@ -13,29 +13,26 @@ use figures::{LONGEST_SIDE, Loop};
 mod inner;
 
 // Whether position i opens a pair that may not close a loop.
+#[tactic(auto, using(crate::proofs::Openings::opening_true, crate::proofs::Openings::opens_is), unfolding(crate::specs::Loops::bars))]
 fn bars(bases: &[u8], pairs: &[u16], i: usize) -> bool
     requires { Sound pairs.now × (length pairs.now ≤ length bases.now) × (i < length pairs.now) }
     ensures { result ≡ bars (view bases.now) (view pairs.now) i }
 {
-    if structure::opening(i, pairs[i]) == 1 {
-        return !closing::may_close(bases, i, pairs[i] as usize);
-    }
-    false
+    structure::opens(i, pairs[i]) && !closing::may_close(bases, i, usize::from(pairs[i]))
 }
 
-// The first position that opens a pair that may not close a loop; the length where none does, and the structure is a candidate.
+// The first position that opens a pair that may not close a loop; the length where none does, and the structure is a candidate:
+// its callers are programs, and a function that answers every structure stays one.
 pub fn first_barred(bases: &[u8], pairs: &[u16]) -> usize
     requires { Sound pairs.now × (length pairs.now ≤ length bases.now) }
     ensures { result ≡ first_barred bases.now pairs.now }
 {
-    let mut i = 0;
-    while i < pairs.len() {
+    for i in 0..pairs.len() {
         if bars(bases, pairs, i) {
             return i;
         }
-        i += 1;
     }
-    i
+    pairs.len()
 }
 
 // The kind of the loop of i and j with the one inner pair x and y: many-armed only where that is cheaper, or a side is too long.
@@ -47,10 +44,7 @@ fn single(bases: &[u8], i: usize, j: usize, x: usize, y: usize) -> Loop
 {
     let left = x - (i + 1);
     let right = j - (y + 1);
-    if LONGEST_SIDE < left {
-        return Loop::Many(1);
-    }
-    if LONGEST_SIDE < right {
+    if LONGEST_SIDE < left || LONGEST_SIDE < right {
         return Loop::Many(1);
     }
     if closing::own(bases, i, j, x, y) <= figures::charge(Loop::Many(1), 0, 0, 0) {
@@ -96,11 +90,12 @@ pub fn charge_at(bases: &[u8], pairs: &[u16], i: usize) -> i32
 }
 
 // What position i adds to the energy.
+#[tactic(auto, using(crate::proofs::Openings::opens_is))]
 fn share(bases: &[u8], pairs: &[u16], i: usize) -> i32
     requires { Chargeable bases.now pairs.now × (i < length pairs.now) }
     ensures { result ≡ cond (opening i (view pairs.now i)) (charge_at (view bases.now) (view pairs.now) i) (pos 0) }
 {
-    if structure::opening(i, pairs[i]) == 1 {
+    if structure::opens(i, pairs[i]) {
         return charge_at(bases, pairs, i);
     }
     0
@@ -111,11 +106,9 @@ pub fn energy_of(bases: &[u8], pairs: &[u16]) -> i32
     requires { Chargeable bases.now pairs.now }
     ensures { result ≡ energy_of bases.now pairs.now }
 {
-    let mut sum: i32 = 0;
-    let mut i: usize = 0;
-    while i < pairs.len() {
+    let mut sum = 0;
+    for i in 0..pairs.len() {
         sum = ints::add(sum, share(bases, pairs, i));
-        i += 1;
     }
     sum
 }

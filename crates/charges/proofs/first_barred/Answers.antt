@@ -11,20 +11,21 @@ use Rattle.charges.proofs.first_barred.Goals as goal
 pub loop-i-init : goal.loop-i-init
 loop-i-init c =
     let e : length c.args.pairs.now - 0 ≡ length c.args.pairs.now = omega arith in
-    (omega arith, ap (λ n. barred (view c.args.bases.now) (view c.args.pairs.now) n 0) e)
+    ap (λ n. barred (view c.args.bases.now) (view c.args.pairs.now) n 0) e
 
 pub bars-requires : goal.bars-requires
 bars-requires c = (c.requires.0, c.requires.1, omega arith)
 
 pub returns-then-bars : goal.returns-then-bars
 returns-then-bars c =
-    sym (barred_here (view c.args.bases.now) (view c.args.pairs.now) _ c.loop-i.i (omega arith) (sym c.bars.ensures ∙ c.if-bars.true)) ∙ c.loop-i.invariant.1
+    sym (barred_here (view c.args.bases.now) (view c.args.pairs.now) _ c.loop-i.i (omega arith) (sym c.bars.ensures ∙ c.if-bars.true)) ∙ c.loop-i.invariant
 
 pub loop-i-preserved : goal.loop-i-preserved
 loop-i-preserved c =
     let e = barred_next (view c.args.bases.now) (view c.args.pairs.now) (length c.args.pairs.now - c.loop-i.i) (length c.args.pairs.now - (c.loop-i.i + 1)) c.loop-i.i (omega arith) (sym c.bars.ensures ∙ c.if-bars.false) in
-    (omega arith, rw (add-one c.loop-i.i) (sym (rw (add-one c.loop-i.i) at e) ∙ c.loop-i.invariant.1))
+    rw (add-one c.loop-i.i) (sym (rw (add-one c.loop-i.i) at e) ∙ c.loop-i.invariant)
 
 pub returns : goal.returns
 returns c =
-    sym (barred_none (view c.args.bases.now) (view c.args.pairs.now) _ c.loop-i.i (omega arith)) ∙ c.loop-i.invariant.1
+    let e : c.loop-i.i ≡ length c.args.pairs.now = omega arith in
+    sym e ∙ sym (barred_none (view c.args.bases.now) (view c.args.pairs.now) _ c.loop-i.i (omega arith)) ∙ c.loop-i.invariant

@@ -1,12 +1,8 @@
 -- `charges::inner::first_in` meets its contract. The loop's invariant: the first opening of the rest is the first of the whole.
 use mathlib.Core.Path.{◌≡◌}
-use Prim.Native.Nat.{◌≤◌, ◌-◌}
 use Rattle.structure.specs.Table.{view}
 use Rattle.charges.specs.Loops.{first_in}
 use Rattle.charges.proofs.inner.first_in.Given as goal
 
 abbrev pub invariant-loop-k : goal.invariant-loop-k
-invariant-loop-k l = (l.lo ≤ l.k) × (l.k ≤ l.hi) × (first_in (view l.pairs) l.k l.hi ≡ first_in (view l.pairs) l.lo l.hi)
-
-abbrev pub decreases-loop-k : goal.decreases-loop-k
-decreases-loop-k l = l.hi - l.k
+invariant-loop-k l = first_in (view l.pairs) l.k l.hi ≡ first_in (view l.pairs) l.lo l.hi
