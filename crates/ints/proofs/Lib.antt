@@ -2,4 +2,3 @@
 pub mod Ints
 pub mod Minima
 pub mod Tables
-pub mod Sums

@@ -6,54 +6,54 @@ use native.Mathlib.Omega.{arith}
 use native.Mathlib.Decide.{ℕ_discrete}
 use lib.IntN.{ℤ, ◌+ℤ◌}
 use lib.Signed.{lt_z, le_z, ◌≤ℤ◌, ◌<ℤ◌}
+use Rattle.std.proofs.lemmas.Int.{by_lt_z}
 use Rattle.ints.specs.Ints.{minℤ, mark, add_e, min_from}
-use Rattle.ints.proofs.Ints.{ints, either, lt_yes, lt_no, le_yes, le_no}
+use Rattle.ints.proofs.Ints.{ints, either}
 
 -- of two numbers one is below the other, or not
 pub less : (x y : ℤ) → (x <ℤ y) ⊎ (y ≤ℤ x)
-less x y = either (lt_z x y) (λ e. inl (let t = lt_yes x y e in omega ints)) (λ e. inr (let t = lt_no x y e in omega ints))
+less x y = by_lt_z x y inl inr
 
 -- ---- the smaller of two
 pub min_by : (a b : ℤ) (P : ℤ → Type 0) → (a ≤ℤ b → P a) → (b ≤ℤ a → P b) → P (minℤ a b)
 unfolding minℤ
-min_by a b P f g =
-    either (le_z a b) (λ e. rw e (f (let t = le_yes a b e in omega ints))) (λ e. rw e (g (let t = le_no a b e in omega ints)))
+min_by a b P f g = either (le_z a b) (λ e. rw e (f (omega ints))) (λ e. rw e (g (omega ints)))
 
 pub min_l : (a b : ℤ) → a ≤ℤ b → minℤ a b ≡ a
-min_l a b h = min_by a b (λ (z : ℤ). z ≡ a) (λ _. refl) (λ k. omega ints)
-
-pub min_r : (a b : ℤ) → b ≤ℤ a → minℤ a b ≡ b
-min_r a b h = min_by a b (λ (z : ℤ). z ≡ b) (λ k. omega ints) (λ _. refl)
+unfolding minℤ
+min_l a b h = grind ints
 
 pub min_le_l : (a b : ℤ) → minℤ a b ≤ℤ a
-min_le_l a b = min_by a b (λ (z : ℤ). z ≤ℤ a) (λ k. omega ints) (λ k. k)
+unfolding minℤ
+min_le_l a b = grind ints
 
 pub min_le_r : (a b : ℤ) → minℤ a b ≤ℤ b
-min_le_r a b = min_by a b (λ (z : ℤ). z ≤ℤ b) (λ k. k) (λ k. omega ints)
+unfolding minℤ
+min_le_r a b = grind ints
 
 pub min_one : (a b : ℤ) → (minℤ a b ≡ a) ⊎ (minℤ a b ≡ b)
-min_one a b = min_by a b (λ (z : ℤ). (z ≡ a) ⊎ (z ≡ b)) (λ k. inl refl) (λ k. inr refl)
+unfolding minℤ
+min_one a b = grind ints
 
 -- ---- a sum that a mark absorbs
 pub add_by : (a b : ℤ) (P : ℤ → Type 0) → (a <ℤ mark → b <ℤ mark → P (a +ℤ b)) → ((mark ≤ℤ a) ⊎ (mark ≤ℤ b) → P mark) → P (add_e a b)
 unfolding add_e
 add_by a b P f g =
     either (lt_z a mark)
-    (λ e. let p : a <ℤ mark = let t = lt_yes a mark e in omega ints in
-    either (lt_z b mark)
-    (λ d. rw (e, d) (f p (let t = lt_yes b mark d in omega ints)))
-    (λ d. rw (e, d) (g (inr (let t = lt_no b mark d in omega ints)))))
-    (λ e. rw e (g (inl (let t = lt_no a mark e in omega ints))))
+    (λ e. either (lt_z b mark) (λ d. rw (e, d) (f (omega ints) (omega ints))) (λ d. rw (e, d) (g (inr (omega ints)))))
+    (λ e. rw e (g (inl (omega ints))))
 
 pub add_some : (a b : ℤ) → a <ℤ mark → b <ℤ mark → add_e a b ≡ a +ℤ b
-add_some a b p q =
-    add_by a b (λ (z : ℤ). z ≡ a +ℤ b) (λ _ _. refl) (λ w. ⊎_elim (λ k. absurd (omega ints)) (λ k. absurd (omega ints)) w)
+unfolding add_e
+add_some a b p q = grind ints
 
 pub add_none_l : (a b : ℤ) → mark ≤ℤ a → add_e a b ≡ mark
-add_none_l a b p = add_by a b (λ (z : ℤ). z ≡ mark) (λ k l. absurd (omega ints)) (λ _. refl)
+unfolding add_e
+add_none_l a b p = grind ints
 
 pub add_none_r : (a b : ℤ) → mark ≤ℤ b → add_e a b ≡ mark
-add_none_r a b p = add_by a b (λ (z : ℤ). z ≡ mark) (λ k l. absurd (omega ints)) (λ _. refl)
+unfolding add_e
+add_none_r a b p = grind ints
 
 -- a sum that isn't the mark, by its parts
 pub record Sum (a b z : ℤ) : Type 0 where
@@ -62,7 +62,8 @@ pub record Sum (a b z : ℤ) : Type 0 where
   pub value : z ≡ a +ℤ b
 
 pub add_real : (a b : ℤ) → add_e a b <ℤ mark → Sum a b (add_e a b)
-add_real a b = add_by a b (λ (z : ℤ). z <ℤ mark → Sum a b z) (λ p q _. record { left = p; right = q; value = refl }) (λ _ h. absurd (omega ints))
+unfolding add_e
+add_real a b h = record { left = grind ints; right = grind ints; value = grind ints }
 
 -- ---- the least of a run
 -- at most each candidate
@@ -71,8 +72,8 @@ unfolding min_from
 least_le f i zero k l h = absurd (omega arith)
 least_le f i (suc n) k l h =
     by_cases (ℕ_discrete k (i + n))
-    (λ e. let q : f k ≡ f (i + n) = ap f e in omega (ints, min_le_r (min_from f i n) (f (i + n))))
-    (λ ne. let r = least_le f i n k l (omega arith) in omega (ints, min_le_l (min_from f i n) (f (i + n))))
+    (λ e. rw e (min_le_r (min_from f i n) (f (i + n))))
+    (λ ne. omega (ints, least_le f i n k l (omega arith), min_le_l (min_from f i n) (f (i + n))))
 
 -- one of them, or the mark
 pub record Reached (f : ℕ → ℤ) (i n : ℕ) (z : ℤ) : Type 0 where
@@ -87,7 +88,7 @@ least_one f i zero = inl refl
 least_one f i (suc n) =
     ⊎_elim
     (λ e. ⊎_elim (λ k. inl (e ∙ k))
-    (λ k. let t = k.to in inr (record { at = k.at; from = k.from; to = omega arith; value = e ∙ k.value })) (least_one f i n))
+    (λ k. inr (record { at = k.at; from = k.from; to = let t = k.to in omega arith; value = e ∙ k.value })) (least_one f i n))
     (λ e. inr (record { at = i + n; from = omega arith; to = omega arith; value = e }))
     (min_one (min_from f i n) (f (i + n)))
 
@@ -100,12 +101,9 @@ least_cap f i zero = omega ints
 least_cap f i (suc n) = omega (ints, least_cap f i n, min_le_l (min_from f i n) (f (i + n)))
 
 -- what a loop's turn needs: none yet, and one more
-pub least_start : (f : ℕ → ℤ) (i k : ℕ) → k ≡ i → min_from f i (k - i) ≡ mark
-unfolding min_from
-least_start f i k h = let e : k - i ≡ 0 = omega arith in ap (min_from f i) e
-
 pub least_none : (f : ℕ → ℤ) (i : ℕ) → min_from f i (i - i) ≡ mark
-least_none f i = least_start f i i refl
+unfolding min_from
+least_none f i = let e : i - i ≡ 0 = omega arith in ap (min_from f i) e
 
 pub least_more : (f : ℕ → ℤ) (i k : ℕ) → i ≤ k → min_from f i ((k + 1) - i) ≡ minℤ (min_from f i (k - i)) (f k)
 unfolding min_from

@@ -8,28 +8,25 @@ ghost use Rattle.ints.specs.Ints.{minℤ, add_e, Small};
 // What a cell holds that has no structure: above every energy.
 pub const MARK: i32 = 1_000_000_000;
 
-// The smaller of two.
+// The smaller of two. It stays beside `i32::min`, since its contract is in minℤ, of which the theorems on folds speak,
+// and must-fail edits hold it (larger, first_always).
 pub fn least(a: i32, b: i32) -> i32
     ensures { result ≡ minℤ a b }
 {
-    if b < a { b } else { a }
+    a.min(b)
 }
 
 // The sum of two energies: none where either has none.
-#[tactic(auto, using(crate::proofs::Sums::plus_cases))]
+#[tactic(auto, using(std::proofs::lemmas::Int::ints), unfolding(crate::specs::Ints::add_e))]
 pub fn plus(a: i32, b: i32) -> i32
     requires { Small a × Small b }
     ensures { result ≡ add_e a b }
 {
-    if a < MARK {
-        if b < MARK {
-            return a + b;
-        }
-    }
-    MARK
+    if a < MARK && b < MARK { a + b } else { MARK }
 }
 
-// The plain sum of two small numbers.
+// The plain sum of two small numbers. It stays beside `a + b`, since must-fail edits hold it (first_twice, second_twice).
+#[tactic(auto, using(std::proofs::lemmas::Int::ints))]
 pub fn add(a: i32, b: i32) -> i32
     requires { Small a × Small b }
     ensures { result ≡ a +ℤ b }
@@ -37,15 +34,16 @@ pub fn add(a: i32, b: i32) -> i32
     a + b
 }
 
-// How far a number is from 0: printing writes the sign by itself.
+// How far a number is from 0, as a size: printing writes the sign by itself.
+// It stays beside `unsigned_abs`, since must-fail edits hold it (one_is_turned, one_too_far).
 pub fn magnitude(a: i32) -> usize
     requires { Small a }
     ensures { result ≡ nat_abs a }
 {
-    if a < 0 { (0 - a) as usize } else { a as usize }
+    a.unsigned_abs() as usize
 }
 
-// One cell of a table.
+// One cell of a table. It stays beside `table[at]`, since must-fail edits hold it (first_cell_always, half_way).
 pub fn cell(table: &[i32], at: usize) -> i32
     requires { at < length table.now }
     ensures { result ≡ get_or table.now at (pos 0) }
@@ -53,7 +51,7 @@ pub fn cell(table: &[i32], at: usize) -> i32
     table[at]
 }
 
-// Stores one cell.
+// Stores one cell. It stays beside `cells[at] = energy`, since must-fail edits hold it (zero_stored, stored_at_0).
 pub fn store(cells: &mut [i32], at: usize, energy: i32)
     requires { at < length cells.old }
     ensures { cells.new ≡ set cells.old at energy }
