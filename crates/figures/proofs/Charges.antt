@@ -1,15 +1,15 @@
 -- Laws of charges: each definition by its cases, the bounds of every table by one computed test, and from these the bounds of every charge.
 use mathlib.Core.Path.{◌≡◌, refl}
 use mathlib.Core.List.{List}
-use Prim.Native.Nat.{ℕ, suc, ◌+◌, ◌-◌, ◌*◌, ◌<◌, ◌≤◌}
+use Prim.Native.Nat.{ℕ, suc, ◌+◌, ◌-◌, ◌*◌, ◌≤◌}
 use native.Mathlib.Omega.{arith}
-use lib.Dec.{leb, eqb, lit≤}
+use lib.Dec.{lit≤}
 use lib.IntN.{ℤ, pos, negsuc, ◌+ℤ◌}
 use lib.ListN.{get_or}
-use borrow.Author.Tests.{le-leb, lt-leb, eq-eqb, ne_eqb}
+use borrow.Author.Tests.{eq-eqb, ne_eqb}
 use Rattle.refusals.specs.Refusals.{fold_limit}
-use Rattle.ints.specs.Ints.{In}
-use Rattle.ints.proofs.Ints.{ints, sum, cond_by}
+use Rattle.ints.specs.Ints.{In, Small}
+use Rattle.ints.proofs.Ints.{ints}
 use Rattle.ints.proofs.Tables.{entry_in}
 use Rattle.figures.specs.Figures as fig
 use Rattle.figures.specs.Figures.{smallest_hairpin, tabled, longest, longest_side}
@@ -28,6 +28,11 @@ pub sides_reach : longest_side + longest_side ≤ longest
 unfolding longest fig.long
 sides_reach = lit≤ tt
 
+-- the code's table of terms is as long as the list
+pub longest_is : longest ≡ 254
+unfolding longest fig.long
+longest_is = refl
+
 -- sums of charges of that many loops stay small
 pub longest_low : longest ≤ 1022
 unfolding longest fig.long
@@ -42,14 +47,6 @@ unfolding figure_most
 figure_low = omega (arith, term_low)
 
 -- ---- a definition by its cases
-pub sized_short : (t : List ℤ) (f n : ℕ) → n ≤ tabled → sized t f n ≡ get_or t (n - f) (pos 0)
-unfolding sized
-sized_short t f n h = simp (le-leb n tabled h)
-
-pub sized_long : (t : List ℤ) (f n : ℕ) → tabled < n → sized t f n ≡ get_or t (tabled - f) (pos 0) +ℤ get_or long (n - suc tabled) (pos 0)
-unfolding sized
-sized_long t f n h = simp (lt-leb n tabled h)
-
 pub hairpin_smallest : (n p : ℕ) → n ≡ smallest_hairpin → hairpin_of n p ≡ sized hairpin smallest_hairpin n
 unfolding hairpin_of
 hairpin_smallest n p h = simp (eq-eqb n smallest_hairpin h)
@@ -98,23 +95,29 @@ long_in = entry_in (pos 0) (pos term_most) long tt
 -- ---- and of each charge
 pub sized_in : (t : List ℤ) (f n h : ℕ) → ((k : ℕ) → In (pos 0) (pos h) (get_or t k (pos 0))) → In (pos 0) (pos (h + term_most)) (sized t f n)
 unfolding sized
-sized_in t f n h b =
-    let short = get_or t (n - f) (pos 0) in
-    let last = get_or t (tabled - f) (pos 0) in
-    let term = get_or long (n - suc tabled) (pos 0) in
-    cond_by (leb n tabled) short (last +ℤ term) (In (pos 0) (pos (h + term_most)))
-    (λ _. omega (ints, b (n - f)))
-    (λ _. omega (ints, b (tabled - f), long_in (n - suc tabled), sum last term))
+sized_in t f n h b = grind (ints, b (n - f), b (tabled - f), long_in (n - suc tabled))
+
+pub sized_hairpin : (n : ℕ) → In (pos 0) (pos (6600 + term_most)) (sized hairpin smallest_hairpin n)
+sized_hairpin n = sized_in hairpin smallest_hairpin n 6600 hairpin_in
+
+pub sized_bulge : (n : ℕ) → In (pos 0) (pos (6000 + term_most)) (sized bulge 1 n)
+sized_bulge n = sized_in bulge 1 n 6000 bulge_in
+
+pub sized_internal : (n : ℕ) → In (pos 0) (pos (3600 + term_most)) (sized internal 2 n)
+sized_internal n = sized_in internal 2 n 3600 internal_in
+
+pub hairpin_small : (k : ℕ) → Small (get_or hairpin k (pos 0))
+hairpin_small k = grind (ints, hairpin_in k)
+
+pub bulge_small : (k : ℕ) → Small (get_or bulge k (pos 0))
+bulge_small k = grind (ints, bulge_in k)
+
+pub internal_small : (k : ℕ) → Small (get_or internal k (pos 0))
+internal_small k = grind (ints, internal_in k)
 
 pub hairpin_of_in : (n p : ℕ) → In (negsuc 799) (pos figure_most) (hairpin_of n p)
 unfolding hairpin_of figure_most
-hairpin_of_in n p =
-    let s = sized hairpin smallest_hairpin n in
-    let m = get_or mismatch p (pos 0) in
-    let b = sized_in hairpin smallest_hairpin n 6600 hairpin_in in
-    cond_by (eqb n smallest_hairpin) s (s +ℤ m) (In (negsuc 799) (pos figure_most))
-    (λ _. omega ints)
-    (λ _. omega (ints, mismatch_in p, sum s m))
+hairpin_of_in n p = grind (ints, sized_hairpin n, mismatch_in p)
 
 pub stack_at_in : (o i : ℕ) → In (negsuc 3399) (pos 0) (stack_at o i)
 unfolding stack_at
@@ -122,12 +125,7 @@ stack_at_in o i = stack_in (o * 6 + i)
 
 pub bulge_of_in : (n o i : ℕ) → In (negsuc 3399) (pos figure_most) (bulge_of n o i)
 unfolding bulge_of figure_most
-bulge_of_in n o i =
-    let s = sized bulge 1 n in
-    let b = sized_in bulge 1 n 6000 bulge_in in
-    cond_by (eqb n 1) (s +ℤ stack_at o i) s (In (negsuc 3399) (pos figure_most))
-    (λ _. omega (ints, stack_at_in o i, sum s (stack_at o i)))
-    (λ _. omega ints)
+bulge_of_in n o i = grind (ints, sized_bulge n, stack_at_in o i)
 
 pub slant_le : (a b : ℕ) → slant a b ≤ 3000
 unfolding slant
@@ -135,8 +133,7 @@ slant_le a b = omega arith
 
 pub internal_of_in : (a b : ℕ) → In (pos 0) (pos figure_most) (internal_of a b)
 unfolding internal_of figure_most
-internal_of_in a b =
-    omega (ints, sized_in internal 2 (a + b) 3600 internal_in, slant_le a b, sum (sized internal 2 (a + b)) (pos (slant a b)))
+internal_of_in a b = omega (ints, sized_internal (a + b), slant_le a b)
 
 -- a charge lies from −3400 to `charge_most`
 pub charge_in : (l : Loop) (o i p : ℕ) → Figured l o i p → In (negsuc 3399) (pos charge_most) (charge_of l o i p)

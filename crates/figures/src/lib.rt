@@ -26,7 +26,7 @@ pub const SIDES: usize = (LONGEST_SIDE + 1) * (LONGEST_SIDE + 1);
 
 // The loop of a closing pair, by kind: a hairpin of that many bases, a stack, a bulge of that many,
 // an internal loop with its two sides, a many-armed loop with that many inner pairs.
-#[derive(Clone, Copy)]
+#[derive(Clone, Copy, Debug, PartialEq, Eq)]
 pub enum Loop {
     Hairpin(usize),
     Stack,
@@ -51,19 +51,16 @@ pub fn charge(kind: Loop, outer: usize, inner: usize, purines: usize) -> i32
 }
 
 // The kind of a loop with one inner pair, by its sides.
+#[tactic(auto, unfolding(crate::specs::Charge::between))]
 pub fn between(left: usize, right: usize) -> Loop
     ensures { result ≡ between left right }
 {
-    if left == 0 {
-        if right == 0 {
-            return Loop::Stack;
-        }
-        return Loop::Bulge(right);
+    match (left, right) {
+        (0, 0) => Loop::Stack,
+        (0, size) => Loop::Bulge(size),
+        (size, 0) => Loop::Bulge(size),
+        _ => Loop::Internal(left, right),
     }
-    if right == 0 {
-        return Loop::Bulge(left);
-    }
-    Loop::Internal(left, right)
 }
 
 // Writes the charges of all loops with one inner pair by their two sides:
@@ -74,11 +71,9 @@ pub fn sides(out: &mut [i32])
 {
     let mut sizes = [0; sided::SIZES];
     sided::by_size(&mut sizes);
-    let mut k = 0;
-    while k < SIDES {
+    for (k, charge) in out.iter_mut().enumerate() {
         let left = k % (LONGEST_SIDE + 1);
         let right = k / (LONGEST_SIDE + 1);
-        out[k] = sided::entry(&sizes, left, right);
-        k += 1;
+        *charge = sided::entry(&sizes, left, right);
     }
 }

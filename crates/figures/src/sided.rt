@@ -9,14 +9,13 @@ use crate::{LONGEST_SIDE, kinds};
 pub const SIZES: usize = LONGEST_SIDE + LONGEST_SIDE + 1;
 
 // Writes the figures of internal loops by size, before the slant.
+#[tactic(auto, using(crate::proofs::Charges::sides_reach))]
 pub fn by_size(out: &mut [i32])
     requires { length out.old ≡ size_count }
     ensures { Sizes out.new }
 {
-    let mut size = 2;
-    while size < SIZES {
-        out[size] = kinds::internal_size(size);
-        size += 1;
+    for (k, figure) in out[2..].iter_mut().enumerate() {
+        *figure = kinds::internal_size(k + 2);
     }
 }
 
@@ -25,11 +24,8 @@ pub fn entry(sizes: &[i32], left: usize, right: usize) -> i32
     requires { (left ≤ longest_side) × (right ≤ longest_side) × Sizes sizes.now }
     ensures { result ≡ side_charge left right }
 {
-    if left == 0 {
+    if left == 0 || right == 0 {
         return crate::charge(crate::between(left, right), 0, 0, 0);
     }
-    if right == 0 {
-        return crate::charge(crate::between(left, right), 0, 0, 0);
-    }
-    ints::add(ints::cell(sizes, left + right), kinds::slanted(left, right))
+    sizes[left + right] + kinds::slanted(left, right)
 }

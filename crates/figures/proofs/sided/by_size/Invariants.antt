@@ -1,13 +1,7 @@
--- `figures::sided::by_size` meets its contract. The loop's invariant: the sizes before `size` are written.
-use mathlib.Core.Path.{◌≡◌}
-use Prim.Native.Nat.{◌≤◌, ◌-◌}
-use lib.ListN.{length}
-use Rattle.figures.specs.Sides.{size_count}
-use Rattle.figures.proofs.Flanks.{SizesTo}
+-- `figures::sided::by_size` meets its contract. The loop's invariant: the sizes before `k + 2` are written.
+use Rattle.std.proofs.Common.{◌≡◌, ℕ, ◌+◌, ◌<◌, pos, get_or}
+use Rattle.figures.specs.Charge.{internal, sized}
 use Rattle.figures.proofs.sided.by_size.Given as goal
 
-abbrev pub invariant-loop-size : goal.invariant-loop-size
-invariant-loop-size l = (2 ≤ l.size) × (l.size ≤ size_count) × (length l.out ≡ length l.initial.out) × SizesTo l.out l.size
-
-abbrev pub decreases-loop-size : goal.decreases-loop-size
-decreases-loop-size l = size_count - l.size
+abbrev pub invariant-loop-k : goal.invariant-loop-k
+invariant-loop-k l = (n : ℕ) → n < l.k → get_or l.figure-items n (pos 0) ≡ sized internal 2 (n + 2)
