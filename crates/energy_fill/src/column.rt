@@ -67,15 +67,15 @@ fn start(paired: &[i32], cells: &mut [i32], j: usize, from: usize, charge: i32, 
 }
 
 // One pass: the rows of the column at `col`, each with `v`, are taken into the column at `to`.
-// Stored without a test, so that it stays fast.
 fn lower(cells: &mut [i32], col: usize, to: usize, rows: usize, v: i32)
     requires { (col + rows ≤ to) × (to + rows ≤ length cells.old) × Small v × Smalls (nums cells.old) col rows }
     ensures { Raised minℤ (λ x. add_e x v) (nums cells.old) (nums cells.old) (nums cells.new) col to rows }
 {
-    for i in 0..rows {
-        let two = ints::plus(ints::cell(cells, col + i), v);
-        cells[to + i] = ints::least(ints::cell(cells, to + i), two);
-    }
+    let lesser = |near: i32, far: i32| -> i32
+        requires { Small far × Small v }
+        ensures { result ≡ minℤ near (add_e far v) }
+    { ints::least(near, ints::plus(far, v)) };
+    cells::pass(cells, col, to, rows, lesser);
 }
 
 // The split after k of rows 0 to `from` of column j. In row k it leaves that base unpaired, whatever its own cell holds.
