@@ -21,7 +21,7 @@ use Rattle.count_rule.proofs.Optimal.{greatest}
 use Rattle.count_trace.specs.Trace.{traced_of}
 use Rattle.count_trace.proofs.Reached.{traced_long, traced_allowed, traced_count}
 use Rattle.counting.specs.declared.Record.{Record}
-use Rattle.counting.specs.declared.Counted.TheVariants.{Folded}
+use Rattle.std.proofs.Common.{Ok}
 use Rattle.counting.specs.Calls.{count_of, Folds}
 use Rattle.counting.specs.Greatest.{Greatest}
 use Rattle.counting.proofs.Accepted.{foldable}
@@ -43,7 +43,7 @@ may_same : (b b' : ℕ → ℕ) (gap n : ℕ) → ((k : ℕ) → k < n → b k �
 unfolding may_pair
 may_same b b' gap n e i j h l y = rw (← e i h, ← e j l) y
 
-module _ (s : List ℕ) (gap : ℕ) (b b' t t' o o' : List ℕ) (r : Record) (m : ℕ) (f : Folds s gap b b' t t' o o' (Folded r m)) where
+module _ (s : List ℕ) (gap : ℕ) (b b' t t' o o' : List ℕ) (r : Record) (m : ℕ) (f : Folds s gap b b' t t' o o' (Ok (r, m))) where
   -- the first bases are the letters of the sequence
   pub fold_letters : (k : ℕ) → k < length s → view b' k ≡ view (map normal s) k
   fold_letters k h = ap (λ (l : List ℕ). view l k) f.2.bases ∙ letters_front s b k h

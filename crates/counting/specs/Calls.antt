@@ -1,7 +1,8 @@
 -- What a fold that counts pairs answers and leaves in lent memory: b, t, o as they came, b', t', o' as they are left.
 -- Assumes nothing: these are definitions.
-use Rattle.std.specs.Prelude.{◌≡◌, List, map, ◌++◌, ℕ, ◌-◌, length, drop}
+use Rattle.std.specs.Prelude.{◌≡◌, List, map, ◌++◌, ℕ, ◌-◌, length, drop, Result, Ok, Err}
 use Rattle.refusals.specs.Refusals.{clear, due_of}
+use Rattle.refusals.specs.declared.Refusal.{Refusal}
 use Rattle.bases.specs.Bases.{normal}
 use Rattle.structure.specs.Table.{view}
 use Rattle.cells.specs.Fill.{at}
@@ -9,8 +10,6 @@ use Rattle.count_fill.specs.Filled.{Filled}
 use Rattle.count_trace.specs.Trace.{traced_of}
 use Rattle.counting.specs.Checks.{fold_due}
 use Rattle.counting.specs.declared.Record.{Record}
-use Rattle.counting.specs.declared.Counted.{Counted}
-use Rattle.counting.specs.declared.Counted.TheVariants.{Folded, Refused}
 
 -- the count of n bases: the cell of the whole span
 unfoldable pub count_of : List ℕ → ℕ → ℕ
@@ -27,7 +26,7 @@ pub record Made (s : List ℕ) (gap : ℕ) (b b' t t' o o' : List ℕ) : Type 0 
   pub pairs : o' ≡ traced_of b' t' gap (length s) o
 
 -- `nussinov` of the sequence s
-abbrev pub Folds : List ℕ → ℕ → (b b' t t' o o' : List ℕ) → Counted → Type 0
-Folds s gap b b' t t' o o' (Folded r m) =
+abbrev pub Folds : List ℕ → ℕ → (b b' t t' o o' : List ℕ) → Result (Record × ℕ) Refusal → Type 0
+Folds s gap b b' t t' o o' (Ok (r, m)) =
     (fold_due s b t o ≡ clear) × (r ≡ record_of (length s) gap) × Made s gap b b' t t' o o' × (m ≡ count_of t' (length s))
-Folds s gap b b' t t' o o' (Refused q) = (fold_due s b t o ≡ due_of q) × (b' ≡ b) × (t' ≡ t) × (o' ≡ o)
+Folds s gap b b' t t' o o' (Err q) = (fold_due s b t o ≡ due_of q) × (b' ≡ b) × (t' ≡ t) × (o' ≡ o)
