@@ -9,9 +9,9 @@ use lib.Dec.{ltb, eqb}
 use lib.ListN.{length}
 use borrow.Author.Tests.{ltb-false, le-ltb, eqb-false, ne_eqb, not-false}
 use Rattle.refusals.specs.Refusals.{clear, check, then, told, fold_limit}
-use Rattle.refusals.specs.declared.Verdict.{Verdict}
-use Rattle.refusals.specs.declared.Verdict.TheVariants.{Clear}
-use Rattle.refusals.specs.declared.Place.TheVariants.{Nowhere}
+use Rattle.std.proofs.Common.{None, Result, Ok}
+use Rattle.std.specs.Prelude.{⊤}
+use Rattle.refusals.specs.declared.Refusal.{Refusal}
 use Rattle.refusals.proofs.Laws.{check_clear, then_clear, neither}
 use Rattle.structure.specs.Table.{view}
 use Rattle.cells.specs.Tri.{tri}
@@ -40,13 +40,13 @@ pub record Believable (n : ℕ) (b t : List ℕ) : Type 0 where
 pub believable : (n : ℕ) (b t : List ℕ) → kept_due n b t ≡ clear → Believable n b t
 unfolding kept_due
 believable n b t e =
-    let small = check (no_room b t n) 4 Nowhere in
-    let bad = check (bad_contents b t n) 11 Nowhere in
-    let c₁ = then_clear (check (bad_length n) 11 Nowhere) (then small bad) e in
+    let small = check (no_room b t n) 4 None in
+    let bad = check (bad_contents b t n) 11 None in
+    let c₁ = then_clear (check (bad_length n) 11 None) (then small bad) e in
     let c₂ = then_clear small bad c₁.1 in
-    let long = neither (eqb n 0) (ltb fold_limit n) (check_clear (bad_length n) 11 Nowhere c₁.0) in
-    let lent = room b t n (check_clear (no_room b t n) 4 Nowhere c₂.0) in
-    let contents = neither (not (all_kept b n)) (not (all_half (at (view t)) n)) (check_clear (bad_contents b t n) 11 Nowhere c₂.1) in
+    let long = neither (eqb n 0) (ltb fold_limit n) (check_clear (bad_length n) 11 None c₁.0) in
+    let lent = room b t n (check_clear (no_room b t n) 4 None c₂.0) in
+    let contents = neither (not (all_kept b n)) (not (all_half (at (view t)) n)) (check_clear (bad_contents b t n) 11 None c₂.1) in
     let none : n ≢ 0 = eqb-false n 0 long.0 in
     record {
       some = omega arith;
@@ -58,7 +58,7 @@ believable n b t e =
     }
 
 -- as the call that makes the checks says it
-pub passed : {v : Verdict} (n : ℕ) (b t : List ℕ) → told v ≡ kept_due n b t → v ≡ Clear → Believable n b t
+pub passed : {v : Result ⊤ Refusal} (n : ℕ) (b t : List ℕ) → told v ≡ kept_due n b t → v ≡ Ok tt → Believable n b t
 passed n b t e c = believable n b t (sym e ∙ ap told c)
 
 -- and nothing is due of such a record

@@ -1,7 +1,6 @@
 -- What every call from a record of a pair count is due of the record and of the kept memory. Assumes nothing: these are definitions.
-use Rattle.std.specs.Prelude.{Bool, not, ◌||◌, List, ℕ, ltb, eqb}
+use Rattle.std.specs.Prelude.{Bool, not, ◌||◌, List, ℕ, ltb, eqb, None}
 use Rattle.refusals.specs.Refusals.{Due, check, then, fold_limit}
-use Rattle.refusals.specs.declared.Place.TheVariants.{Nowhere}
 use Rattle.bases.specs.Bases.{is_kept}
 use Rattle.structure.specs.Table.{view}
 use Rattle.cells.specs.Fill.{at}
@@ -24,5 +23,5 @@ bad_contents b t n = not (all_kept b n) || not (all_half (at (view t)) n)
 -- every call from a record of n bases: 11 for the length, 4 for the present length, 11 for the contents
 unfoldable pub kept_due : ℕ → List ℕ → List ℕ → Due
 kept_due n b t =
-    then (check (bad_length n) 11 Nowhere)
-    (then (check (no_room b t n) 4 Nowhere) (check (bad_contents b t n) 11 Nowhere))
+    then (check (bad_length n) 11 None)
+    (then (check (no_room b t n) 4 None) (check (bad_contents b t n) 11 None))
