@@ -55,51 +55,57 @@ fn hop(x: usize, v: usize, hi: usize) -> Option<usize>
     Some(v + 1)
 }
 
-// Do the positions from lo up to hi pair only with each other? The pairs inside are known to fold, so the walk jumps over them.
-fn walk(table: &[u16], lo: usize, hi: usize) -> bool
-    requires table_len_bound { length table.now ≤ structure_limit }
-    requires lo_le_hi { (lo ≤ hi) × (hi ≤ length table.now) }
-    requires all_named { AllNamed (view table.now) (length table.now) }
-    requires shut { Shut (view table.now) (length table.now) lo }
-    ensures { Tells result (Fold (view table.now) lo hi) (Escapes (view table.now) lo hi) }
-{
-    let mut x = lo;
-    while x < hi {
-        let Some(y) = hop(x, table[x] as usize, hi) else {
-            return false;
-        };
-        x = y;
-    }
-    true
+// A table whose entries all name back, and that is no longer than the limit.
+#[derive(Clone, Copy)]
+struct Named<'a> {
+    table: &'a [u16],
+    ghost short: { length table.now ≤ structure_limit },
+    ghost named: { AllNamed (view table.now) (length table.now) },
 }
 
-// Does the pair that opens at i, if one does, fold?
-fn level(table: &[u16], i: usize) -> bool
-    requires table_len_bound { length table.now ≤ structure_limit }
-    requires i_in_bounds { i < length table.now }
-    requires all_named { AllNamed (view table.now) (length table.now) }
-    requires shut { Shut (view table.now) (length table.now) (i + 1) }
-    ensures { Tells result (Shut (view table.now) (length table.now) i) (Crossing (view table.now) (length table.now)) }
-{
-    let v = table[i];
-    if !opens(i, v) {
-        return true;
-    }
-    walk(table, i + 1, v as usize)
-}
-
-// Is no pair crossed by another? From right to left each position is walked over by one pair only, the innermost around it.
-fn nested(table: &[u16]) -> bool
-    requires table_len_bound { length table.now ≤ structure_limit }
-    requires all_named { AllNamed (view table.now) (length table.now) }
-    ensures { Tells result (Sound table.now) (Crossing (view table.now) (length table.now)) }
-{
-    for i in (0..table.len()).rev() {
-        if !level(table, i) {
-            return false;
+impl Named<'_> {
+    // Do the positions from lo up to hi pair only with each other? The pairs inside are known to fold, so the walk jumps over them.
+    fn walk(&self, lo: usize, hi: usize) -> bool
+        requires lo_le_hi { (lo ≤ hi) × (hi ≤ length self.now.table.now) }
+        requires shut { Shut (view self.now.table.now) (length self.now.table.now) lo }
+        ensures { Tells result (Fold (view self.now.table.now) lo hi) (Escapes (view self.now.table.now) lo hi) }
+    {
+        let mut x = lo;
+        // No range goes from pair to pair: each turn says where the next one is.
+        while x < hi {
+            let Some(y) = hop(x, self.table[x] as usize, hi) else {
+                return false;
+            };
+            x = y;
         }
+        true
     }
-    walk(table, 0, table.len())
+
+    // Does the pair that opens at i, if one does, fold?
+    fn level(&self, i: usize) -> bool
+        requires i_in_bounds { i < length self.now.table.now }
+        requires shut { Shut (view self.now.table.now) (length self.now.table.now) (i + 1) }
+        ensures { Tells result (Shut (view self.now.table.now) (length self.now.table.now) i)
+            (Crossing (view self.now.table.now) (length self.now.table.now)) }
+    {
+        let v = self.table[i];
+        if !opens(i, v) {
+            return true;
+        }
+        self.walk(i + 1, v as usize)
+    }
+
+    // Is no pair crossed by another? From right to left each position is walked over by one pair only, the innermost around it.
+    fn nested(&self) -> bool
+        ensures { Tells result (Sound self.now.table.now) (Crossing (view self.now.table.now) (length self.now.table.now)) }
+    {
+        for i in (0..self.table.len()).rev() {
+            if !self.level(i) {
+                return false;
+            }
+        }
+        self.walk(0, self.table.len())
+    }
 }
 
 // Is the pair that opens at a crossed by one that opens further right?
@@ -144,7 +150,8 @@ pub fn unsound(table: &[u16]) -> Result<(), Refusal>
     if let Some(k) = first_unnamed(table) {
         return Err(Refusal::Unsound(k));
     }
-    if nested(table) {
+    let named = Named { table };
+    if named.nested() {
         return Ok(());
     }
     Err(Refusal::Unsound(lowest_crossed(table)))

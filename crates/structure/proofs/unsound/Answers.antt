@@ -12,9 +12,9 @@ unfolding unsound_due
 returns-in-Some c =
     rw (unnamed_first (view c.args.table.now) (length c.args.table.now) c.in-Some.ensures.1 c.in-Some.ensures.0)
 
-pub nested-requires : goal.nested-requires
-nested-requires c =
-    record { table_len_bound = c.requires; all_named = all_named (view c.args.table.now) (length c.args.table.now) c.in_default.ensures (omega arith) }
+pub invariant_of-named : goal.invariant_of-named
+invariant_of-named c =
+    record { short = c.requires; named = all_named (view c.args.table.now) (length c.args.table.now) c.in_default.ensures (omega arith) }
 
 pub returns-then-nested : goal.returns-then-nested
 returns-then-nested c = sym (sound_clear _ (c.nested.ensures.holds c.if-nested.true))
