@@ -3,6 +3,7 @@
 
 ghost use Rattle.brackets.specs.Calls.{Parses, Spells};
 
+use crate::text::Text;
 use refusals::{Refusal, STRUCTURE_LIMIT};
 
 mod spelling;
@@ -17,12 +18,13 @@ pub fn from_dot_bracket(text: &[u8], pairs: &mut [u16]) -> Result<usize, Refusal
     if STRUCTURE_LIMIT < text.len() {
         return Err(Refusal::TooLong);
     }
-    text::first_offence(text)?;
-    text::first_unmatched(text)?;
+    let short = Text { bytes: text };
+    short.first_offence()?;
+    short.first_unmatched()?;
     if pairs.len() < text.len() {
         return Err(Refusal::TooShort);
     }
-    text::fill(text, pairs);
+    short.fill(pairs);
     Ok(text.len())
 }
 

@@ -32,38 +32,6 @@ pub fn offence_at(b: u8, d: usize, k: usize) -> Result<(), Refusal>
     }
 }
 
-// The refusal at the first offending place.
-pub fn first_offence(text: &[u8]) -> Result<(), Refusal>
-    requires { length text.now ≤ structure_limit }
-    ensures { told result ≡ each (offence (view text.now)) (length text.now) }
-{
-    let mut d = 0;
-    for (k, &b) in text.iter().enumerate() {
-        offence_at(b, d, k)?;
-        d = after(b, d);
-    }
-    Ok(())
-}
-
-// The refusal at the leftmost unmatched `(`: the last place at which nothing was open, where something is open in the end.
-pub fn first_unmatched(text: &[u8]) -> Result<(), Refusal>
-    requires { length text.now ≤ structure_limit }
-    ensures { told result ≡ each (unclosed (view text.now) (length text.now)) (length text.now) }
-{
-    let mut d = 0;
-    let mut first = 0;
-    for (k, &b) in text.iter().enumerate() {
-        if d == 0 {
-            first = k;
-        }
-        d = after(b, d);
-    }
-    if d == 0 {
-        return Ok(());
-    }
-    Err(Refusal::Unclosed(first))
-}
-
 // One turn of the writing: the byte b at place i, where top is the innermost open place. Returns the next innermost one.
 pub fn put(b: u8, i: usize, top: usize, pairs: &mut [u16]) -> usize
     requires i_in_bounds { i < length pairs.old }
@@ -91,16 +59,54 @@ pub fn put(b: u8, i: usize, top: usize, pairs: &mut [u16]) -> usize
     }
 }
 
-// Writes the table of a text. An open place's entry holds the open place around it, so no other memory is needed for the stack.
-pub fn fill(text: &[u8], pairs: &mut [u16])
-    requires text_len_bound { length text.now ≤ structure_limit }
-    requires text_in_bounds { length text.now ≤ length pairs.old }
-    requires clean { Clean (view text.now) (length text.now) }
-    requires text_value { depth (view text.now) (length text.now) ≡ 0 }
-    ensures { Written text.now pairs.old pairs.new }
-{
-    let mut top = 65535;
-    for (k, &b) in text.iter().enumerate() {
-        top = put(b, k, top, pairs);
+// A text that is no longer than the limit.
+#[derive(Clone, Copy)]
+pub struct Text<'a> {
+    pub bytes: &'a [u8],
+    pub ghost short: { length bytes.now ≤ structure_limit },
+}
+
+impl Text<'_> {
+    // The refusal at the first offending place.
+    pub fn first_offence(&self) -> Result<(), Refusal>
+        ensures { told result ≡ each (offence (view self.now.bytes.now)) (length self.now.bytes.now) }
+    {
+        let mut d = 0;
+        for (k, &b) in self.bytes.iter().enumerate() {
+            offence_at(b, d, k)?;
+            d = after(b, d);
+        }
+        Ok(())
+    }
+
+    // The refusal at the leftmost unmatched `(`: the last place at which nothing was open, where something is open in the end.
+    pub fn first_unmatched(&self) -> Result<(), Refusal>
+        ensures { told result ≡ each (unclosed (view self.now.bytes.now) (length self.now.bytes.now)) (length self.now.bytes.now) }
+    {
+        let mut d = 0;
+        let mut first = 0;
+        for (k, &b) in self.bytes.iter().enumerate() {
+            if d == 0 {
+                first = k;
+            }
+            d = after(b, d);
+        }
+        if d == 0 {
+            return Ok(());
+        }
+        Err(Refusal::Unclosed(first))
+    }
+
+    // Writes the table of the text. An open place's entry holds the open place around it, so no other memory is needed for the stack.
+    pub fn fill(&self, pairs: &mut [u16])
+        requires text_in_bounds { length self.now.bytes.now ≤ length pairs.old }
+        requires clean { Clean (view self.now.bytes.now) (length self.now.bytes.now) }
+        requires text_value { depth (view self.now.bytes.now) (length self.now.bytes.now) ≡ 0 }
+        ensures { Written self.now.bytes.now pairs.old pairs.new }
+    {
+        let mut top = 65535;
+        for (k, &b) in self.bytes.iter().enumerate() {
+            top = put(b, k, top, pairs);
+        }
     }
 }

@@ -2,7 +2,7 @@ use mathlib.Core.Path.{◌≡◌}
 use native.Mathlib.Omega.{arith}
 use lib.ListN.{length}
 use Rattle.brackets.proofs.Stack.{writing_start, writing_step, writing_below, writing_end, top_small}
-use Rattle.brackets.proofs.text.fill.Goals as goal
+use Rattle.brackets.proofs.text.Text.fill.Goals as goal
 
 pub loop-k-init : goal.loop-k-init
 loop-k-init c = writing_start _ _
@@ -20,5 +20,5 @@ shape_of-pairs c = c.loop-k.invariant.long
 
 pub returns : goal.returns
 returns c =
-    let e : c.loop-k.k ≡ length c.args.text.now = omega arith in
+    let e : c.loop-k.k ≡ length c.args.self.now.bytes.now = omega arith in
     writing_end _ _ _ c.loop-k.top (rw e at c.loop-k.invariant) c.requires.text_value (omega arith)
