@@ -12,6 +12,7 @@ use Rattle.cells.specs.Tri.{tri, place}
 use Rattle.cells.specs.Rule.{Bases}
 use Rattle.cells.specs.Fill.{at, Fine}
 use Rattle.cells.proofs.Places.{tri_below}
+use Rattle.cells.proofs.Passes.{tri_back}
 use Rattle.ints.specs.Ints.{minℤ, mark, add_e, min_from, Small}
 use Rattle.ints.proofs.Ints.{ints, sum, either}
 use Rattle.ints.proofs.Minima.{less, min_by, min_l, min_le_l, min_le_r, add_by, add_some, add_none_l, least_le, least_real, least_cap, least_more}
@@ -96,6 +97,15 @@ module _ (i j q r hi : ℕ) (e : Ends i j q r) (m : hi ≡ min (suc longest_side
       let f = e.few in
       let g = side_in l r (omega arith) in
       rw (t.each l r (omega arith) f) (record { low = omega ints; high = omega (ints, figure_low) })
+
+-- one column back
+pub col_back :
+    (i j r col : ℕ) → Ends i j (j - 1 - r) r → col ≡ place (i + 1) (j - 1 - r) →
+    (j - 1 - r ≤ col) × (col - (j - 1 - r) ≡ place (i + 1) (j - 1 - (r + 1)))
+col_back i j r col e c =
+    let f = e.far in
+    let q : j - 1 - (r + 1) ≡ j - 1 - r - 1 = omega arith in
+    rw q (omega (arith, tri_back (j - 1 - r) (omega arith)))
 
 -- ---- candidates
 module _ (b : Bases) (v : Table) (i j x y : ℕ) where

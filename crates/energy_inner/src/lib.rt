@@ -46,13 +46,15 @@ fn near(paired: &[i32], sides: &[i32], i: usize, j: usize) -> i32
     let low = i + 2 + SMALLEST_HAIRPIN;
     let count = LENGTHS.min(j.saturating_sub(low));
     let mut best = MARK;
+    // Carried from column to column: it is faster than `place` at each.
+    let mut col = cells::place(i + 1, j - 1);
     for r in 0..count {
         let q = j - 1 - r;
-        let col = cells::place(i + 1, q);
         let lo = 2usize.saturating_sub(r);
         let hi = LENGTHS.min(q + 1 - low);
         let x = run(paired, sides, col, LENGTHS * r, lo, hi);
         best = ints::least(best, x);
+        col -= q;
     }
     best
 }
