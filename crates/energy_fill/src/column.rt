@@ -6,20 +6,19 @@ ghost use Rattle.cells.specs.Fill.{at, Fine, FineFrom, Rows};
 ghost use Rattle.cells.specs.Pass.{Raised, Taken, Settled};
 ghost use Rattle.ints.specs.Ints.{minℤ, add_e, Small};
 ghost use Rattle.figures.specs.Figures.{longest};
-ghost use Rattle.figures.specs.Sides.{Sides};
 ghost use Rattle.energy_rule.specs.Rule.{energies};
 ghost use Rattle.energy_rule.specs.Bounds.{Ranged};
 ghost use Rattle.energy_rule.specs.Memory.{nums, table, three, Room};
 ghost use Rattle.energy_inner.specs.Search.{InRange, Smalls, Before};
 ghost use Rattle.energy_fill.specs.Passes.{Started, closed, begun, link};
 
-use figures::{ARM, CLOSING};
+use figures::{ARM, CLOSING, SideCharges};
 use ints::MARK;
 
 // The least with i and j paired: a hairpin, one inner pair, or arms.
 #[tactic(auto, using(energy_rule::proofs::Parts::may_far, figures::proofs::Charges::longest_low, cells::proofs::Places::place_below))]
-fn close(bases: &[u8], sides: &[i32], paired: &[i32], arms: &[i32], i: usize, j: usize) -> i32
-    requires { (i ≤ j) × Before bases.now paired.now j × Sides sides.now × (tri j ≤ length arms.now)
+fn close(bases: &[u8], sides: &SideCharges, paired: &[i32], arms: &[i32], i: usize, j: usize) -> i32
+    requires { (i ≤ j) × Before bases.now paired.now j × (tri j ≤ length arms.now)
         × Fine InRange (at (nums arms.now)) j }
     ensures { result ≡ closed (view bases.now) (table paired.now) (table arms.now) j i }
 {
@@ -35,9 +34,16 @@ fn close(bases: &[u8], sides: &[i32], paired: &[i32], arms: &[i32], i: usize, j:
 
 // Rows 0 to `from` of column j of the paired cells: they read the columns before alone.
 #[tactic(auto, using(figures::proofs::Charges::longest_low, cells::proofs::Places::tri_step))]
-fn close_all(bases: &[u8], sides: &[i32], paired: &mut [i32], arms: &[i32], j: usize, from: usize)
+fn close_all(
+    bases: &[u8],
+    sides: &SideCharges,
+    paired: &mut [i32],
+    arms: &[i32],
+    j: usize,
+    from: usize,
+)
     requires { (from ≤ j) × (tri (j + 1) ≤ length paired.old) × Before bases.now paired.old j
-        × Sides sides.now × (tri j ≤ length arms.now) × Fine InRange (at (nums arms.now)) j }
+        × (tri j ≤ length arms.now) × Fine InRange (at (nums arms.now)) j }
     ensures { Started (closed (view bases.now) (table paired.old) (table arms.now) j) (nums paired.old) (nums paired.new) j (from + 1) }
 {
     let to = cells::place(0, j);
@@ -106,14 +112,14 @@ fn settle(cells: &mut [i32], j: usize, from: usize)
 #[tactic(auto, using(cells::proofs::Places::tri_step, crate::proofs::Ruled::before_paired, crate::proofs::Ruled::before_arms))]
 pub fn rows(
     bases: &[u8],
-    sides: &[i32],
+    sides: &SideCharges,
     paired: &mut [i32],
     any: &mut [i32],
     arms: &mut [i32],
     j: usize,
     from: usize,
 )
-    requires from_le_j { (from ≤ j) × Room bases.now paired.old any.old arms.old (j + 1) × Sides sides.now }
+    requires from_le_j { (from ≤ j) × Room bases.now paired.old any.old arms.old (j + 1) }
     requires fine_from { FineFrom (Ranged (view bases.now)) (at (three paired.old any.old arms.old)) (from + 1) j }
     ensures { Rows energies Ranged (view bases.now) (three paired.old any.old arms.old) (three paired.new any.new arms.new) j from 0 }
 {

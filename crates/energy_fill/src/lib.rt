@@ -5,11 +5,12 @@
 ghost use Rattle.std.specs.Prelude.{◌≤◌};
 ghost use Rattle.structure.specs.Table.{view};
 ghost use Rattle.cells.specs.Fill.{at, FineElse, Columns};
-ghost use Rattle.figures.specs.Sides.{Sides};
 ghost use Rattle.energy_rule.specs.Rule.{energies};
 ghost use Rattle.energy_rule.specs.Bounds.{Ranged};
 ghost use Rattle.energy_rule.specs.Memory.{three, Room};
 ghost use Rattle.energy_fill.specs.Filled.{Filled};
+
+use figures::SideCharges;
 
 mod column;
 
@@ -17,7 +18,7 @@ mod column;
 // The tables stand apart: in a struct of the three `&mut`, a call that lends two of them at once has no rule of the borrow checker.
 pub fn columns(
     bases: &[u8],
-    sides: &[i32],
+    sides: &SideCharges,
     paired: &mut [i32],
     any: &mut [i32],
     arms: &mut [i32],
@@ -25,7 +26,7 @@ pub fn columns(
     top: usize,
     n: usize,
 )
-    requires first_le_n { (first ≤ n) × Room bases.now paired.old any.old arms.old n × Sides sides.now }
+    requires first_le_n { (first ≤ n) × Room bases.now paired.old any.old arms.old n }
     requires fine_else { FineElse (Ranged (view bases.now)) (at (three paired.old any.old arms.old)) first top n }
     ensures { Columns energies Ranged (view bases.now) (three paired.old any.old arms.old)
         (three paired.new any.new arms.new) first top n }
@@ -38,13 +39,13 @@ pub fn columns(
 // The fold: every cell of the first n bases, whatever stood there.
 pub fn fill(
     bases: &[u8],
-    sides: &[i32],
+    sides: &SideCharges,
     paired: &mut [i32],
     any: &mut [i32],
     arms: &mut [i32],
     n: usize,
 )
-    requires { Room bases.now paired.old any.old arms.old n × Sides sides.now }
+    requires { Room bases.now paired.old any.old arms.old n }
     ensures { Filled bases.now paired.old any.old arms.old paired.new any.new arms.new n }
 {
     columns(bases, sides, paired, any, arms, 0, n, n);

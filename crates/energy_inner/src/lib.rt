@@ -8,13 +8,12 @@ ghost use Rattle.cells.specs.Tri.{tri};
 ghost use Rattle.cells.specs.Fill.{at, Fine};
 ghost use Rattle.ints.specs.Ints.{min_from};
 ghost use Rattle.figures.specs.Figures.{smallest_hairpin, longest_side, longest};
-ghost use Rattle.figures.specs.Sides.{Sides};
 ghost use Rattle.closing.specs.Closing.{may_close};
 ghost use Rattle.energy_rule.specs.Rule.{inner_at, interior};
 ghost use Rattle.energy_rule.specs.Memory.{nums, table};
 ghost use Rattle.energy_inner.specs.Search.{InRange, Smalls, Charge, charged, near, Before};
 
-use figures::{LONGEST_SIDE, SMALLEST_HAIRPIN};
+use figures::{LONGEST_SIDE, SMALLEST_HAIRPIN, SideCharges};
 use ints::MARK;
 
 // How many lengths a side of a loop may have, from 0 on.
@@ -38,10 +37,10 @@ fn run(paired: &[i32], sides: &[i32], from: usize, row: usize, lo: usize, hi: us
 // The least of the inner pairs with two bases or more beside them:
 // one run for each right side, whose cells and charges both lie side by side.
 #[tactic(auto, using(figures::proofs::Charges::longest_low, crate::proofs::Searching::near_none))]
-fn near(paired: &[i32], sides: &[i32], i: usize, j: usize) -> i32
+fn near(paired: &[i32], sides: &SideCharges, i: usize, j: usize) -> i32
     requires { (i + smallest_hairpin < j) × (j < longest + 2) × (tri j ≤ length paired.now)
-        × Fine InRange (at (nums paired.now)) j × Sides sides.now }
-    ensures { result ≡ near (nums paired.now) (nums sides.now) i j }
+        × Fine InRange (at (nums paired.now)) j }
+    ensures { result ≡ near (nums paired.now) (nums sides.now.charges) i j }
 {
     let low = i + 2 + SMALLEST_HAIRPIN;
     let count = LENGTHS.min(j.saturating_sub(low));
@@ -52,7 +51,7 @@ fn near(paired: &[i32], sides: &[i32], i: usize, j: usize) -> i32
         let q = j - 1 - r;
         let lo = 2usize.saturating_sub(r);
         let hi = LENGTHS.min(q + 1 - low);
-        let x = run(paired, sides, col, LENGTHS * r, lo, hi);
+        let x = run(paired, &sides.charges, col, LENGTHS * r, lo, hi);
         best = ints::least(best, x);
         col -= q;
     }
@@ -74,8 +73,8 @@ fn one(bases: &[u8], paired: &[i32], i: usize, j: usize, x: usize, y: usize) -> 
 
 // The least with one inner pair.
 #[tactic(auto, using(energy_rule::proofs::Parts::may_far, figures::proofs::Charges::longest_low))]
-pub fn interior(bases: &[u8], sides: &[i32], paired: &[i32], i: usize, j: usize) -> i32
-    requires { Before bases.now paired.now j × Sides sides.now × (may_close (view bases.now) i j ≡ true) }
+pub fn interior(bases: &[u8], sides: &SideCharges, paired: &[i32], i: usize, j: usize) -> i32
+    requires { Before bases.now paired.now j × (may_close (view bases.now) i j ≡ true) }
     ensures { result ≡ interior (view bases.now) (table paired.now) i j }
 {
     let stack = one(bases, paired, i, j, i + 1, j - 1);

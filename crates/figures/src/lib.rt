@@ -63,8 +63,7 @@ pub fn between(left: usize, right: usize) -> Loop
     }
 }
 
-// Writes the charges of all loops with one inner pair by their two sides:
-// once a fold, for a search that reads a lent slice, since a const table is copied at every read.
+// Writes the charges of all loops with one inner pair by their two sides.
 pub fn sides(out: &mut [i32])
     requires { length out.old ≡ side_count }
     ensures { Sides out.new }
@@ -75,5 +74,22 @@ pub fn sides(out: &mut [i32])
         let left = k % (LONGEST_SIDE + 1);
         let right = k / (LONGEST_SIDE + 1);
         *charge = sided::entry(&sizes, left, right);
+    }
+}
+
+// Those charges, made once a fold for a search that reads them at every cell, since a const table is copied at every read.
+#[derive(Clone, Copy)]
+pub struct SideCharges {
+    pub charges: [i32; SIDES],
+    pub ghost right: { Sides charges },
+}
+
+impl SideCharges {
+    pub fn new() -> Self
+        ensures { Sides result.charges }
+    {
+        let mut charges = [0; SIDES];
+        sides(&mut charges);
+        SideCharges { charges }
     }
 }

@@ -15,7 +15,6 @@ rows-requires c =
       from_le_j = (
         omega arith,
         record { short = omega arith; bases = omega arith; paired = omega arith; any = omega arith; arms = omega arith },
-        c.requires.first_le_n.2,
       );
       fine_from = columns_fine energies energies_local Ranged energies_keeps _ _ _ _ _ c.args.n _ _ (omega arith) (omega arith) c.min.ensures c.requires.fine_else c.loop-j.invariant;
     }

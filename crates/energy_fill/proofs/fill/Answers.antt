@@ -11,7 +11,7 @@ use Rattle.energy_fill.proofs.fill.Goals as goal
 
 pub columns-requires : goal.columns-requires
 columns-requires c =
-    record { first_le_n = (omega arith, c.requires.0, c.requires.1); fine_else = else_filled (Ranged (view c.args.bases.now)) (at (three c.args.paired.now c.args.any.now c.args.arms.now)) _ }
+    record { first_le_n = (omega arith, c.requires); fine_else = else_filled (Ranged (view c.args.bases.now)) (at (three c.args.paired.now c.args.any.now c.args.arms.now)) _ }
 
 pub returns : goal.returns
 returns c =

@@ -14,5 +14,5 @@ returns c =
     ∙ ap₂ minℤ
     (is c.least.result c.least.type_inv c.least.ensures ∙ ap₂ minℤ (is c.near-other.result c.near-other.type_inv c.near-other.ensures) (is c.one-stack.result c.one-stack.type_inv c.one-stack.ensures))
     (is c.least-2.result c.least-2.type_inv c.least-2.ensures ∙ ap₂ minℤ (is c.one-left.result c.one-left.type_inv c.one-left.ensures) (is c.one-right.result c.one-right.type_inv c.one-right.ensures))
-    ∙ search_is (view c.args.bases.now) (nums c.args.paired.now) (nums c.args.sides.now) c.args.i c.args.j c.requires.1.each c.requires.0.fine
-    (may_far (view c.args.bases.now) c.args.i c.args.j c.requires.2)
+    ∙ search_is (view c.args.bases.now) (nums c.args.paired.now) (nums c.args.sides.now.charges) c.args.i c.args.j c.args.sides.now.right.each c.requires.0.fine
+    (may_far (view c.args.bases.now) c.args.i c.args.j c.requires.1)

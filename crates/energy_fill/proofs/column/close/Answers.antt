@@ -20,7 +20,7 @@ pub plus-many-requires : goal.plus-many-requires
 plus-many-requires c =
     let w = may_far (view c.args.bases.now) c.args.i c.args.j (sym c.may_close.ensures ∙ c.if-not-may_close.false) in
     let e : c.cell.result ≡ table c.args.arms.now (c.args.i + 1) (c.args.j - 1) = c.cell.ensures ∙ ap (nums c.args.arms.now) c.place-at.ensures in
-    let r = range_small (c.args.i + 1) (c.args.j - 1) _ (omega arith) (c.requires.4 (c.args.i + 1) (c.args.j - 1) (omega arith) (omega arith)) in
+    let r = range_small (c.args.i + 1) (c.args.j - 1) _ (omega arith) (c.requires.3 (c.args.i + 1) (c.args.j - 1) (omega arith) (omega arith)) in
     omega (ints, back c.cell.result c.cell.type_inv)
 
 pub returns : goal.returns

@@ -23,7 +23,6 @@ close-requires c = (
   },
   c.requires.3,
   c.requires.4,
-  c.requires.5,
 )
 
 pub loop-i-preserved : goal.loop-i-preserved
