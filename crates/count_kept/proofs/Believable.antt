@@ -1,5 +1,5 @@
 -- A record and kept memory that pass the checks: what they were found to have, both ways. Assumes nothing.
-use mathlib.Core.Path.{◌≡◌, sym, ap, ◌∙◌}
+use mathlib.Core.Path.{◌≡◌}
 use mathlib.Core.Bool.{true, false, not}
 use mathlib.Core.Logic.{◌≢◌}
 use mathlib.Core.List.{List}
@@ -8,10 +8,8 @@ use native.Mathlib.Omega.{arith}
 use lib.Dec.{ltb, eqb}
 use lib.ListN.{length}
 use borrow.Author.Tests.{ltb-false, le-ltb, eqb-false, ne_eqb, not-false}
-use Rattle.refusals.specs.Refusals.{clear, check, then, told, fold_limit}
-use Rattle.std.proofs.Common.{None, Result, Ok}
-use Rattle.std.specs.Prelude.{⊤}
-use Rattle.refusals.specs.declared.Refusal.{Refusal}
+use Rattle.refusals.specs.Refusals.{clear, check, then, fold_limit}
+use Rattle.std.proofs.Common.{None}
 use Rattle.refusals.proofs.Laws.{check_clear, then_clear, neither}
 use Rattle.structure.specs.Table.{view}
 use Rattle.cells.specs.Tri.{tri}
@@ -56,10 +54,6 @@ believable n b t e =
       kept = not-false (all_kept b n) contents.0;
       fine = all_fine (at (view t)) (view b) n (not-false (all_half (at (view t)) n) contents.1);
     }
-
--- as the call that makes the checks says it
-pub passed : {v : Result ⊤ Refusal} (n : ℕ) (b t : List ℕ) → told v ≡ kept_due n b t → v ≡ Ok tt → Believable n b t
-passed n b t e c = believable n b t (sym e ∙ ap told c)
 
 -- and nothing is due of such a record
 pub believed : (n : ℕ) (b t : List ℕ) → Believable n b t → kept_due n b t ≡ clear
