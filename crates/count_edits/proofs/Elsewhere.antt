@@ -5,16 +5,15 @@ use mathlib.Core.Bool.{Bool, false}
 use mathlib.Core.List.{List}
 use Prim.Native.Nat.{ℕ, ◌≤◌}
 use lib.ListN.{length, length-set}
+use Rattle.std.proofs.Common.{Err, Ok}
+use Rattle.count_edits.specs.Calls.{Edited}
 use Rattle.structure.specs.Table.{view}
 use Rattle.cells.specs.Tri.{tri, place}
 use Rattle.edits.specs.Edits.{Edit, replace, add, erase, longest, Byte, Cell}
 use Rattle.edits.specs.Runs.{Run}
 use Rattle.edits.proofs.Elsewhere.{does_bytes, does_cells, run_bytes, run_cells}
 use Rattle.counting.specs.declared.Record.{Record}
-use Rattle.counting.specs.declared.Counted.TheVariants.{Folded}
 use Rattle.counting.specs.Calls.{Folds}
-use Rattle.count_edits.specs.declared.Edited.{Edited}
-use Rattle.count_edits.specs.declared.Edited.TheVariants.{Done, Refused}
 use Rattle.count_edits.specs.Histories.{State, state, Meets, Call}
 use Rattle.count_edits.proofs.Good.{counts, does, good_fold}
 
@@ -39,10 +38,10 @@ elsewhere_cells e ok s s' c = does_cells counts s s' e ok (does e ok s s' c)
 long :
     (e : Edit) (s s' : State) (a : Edited) → Meets e s s' a →
     (length s'.bases ≡ length s.bases) × (length s'.cells ≡ length s.cells)
-long (replace p x) s s' (Done r m) c = (ap length c.2.byte ∙ simp length-set, c.2.long)
-long (replace p x) s s' (Refused q r) c = (ap length c.2, ap length c.3)
-long (add x) s s' (Done r m) c = (ap length c.2.byte ∙ simp length-set, c.2.long)
-long (add x) s s' (Refused q r) c = (ap length c.2, ap length c.3)
+long (replace p x) s s' (Ok (r, m)) c = (ap length c.2.byte ∙ simp length-set, c.2.long)
+long (replace p x) s s' (Err (q, r)) c = (ap length c.2, ap length c.3)
+long (add x) s s' (Ok (r, m)) c = (ap length c.2.byte ∙ simp length-set, c.2.long)
+long (add x) s s' (Err (q, r)) c = (ap length c.2, ap length c.3)
 long erase s s' a c = (ap length c.1, ap length c.2)
 
 pub elsewhere_long :
@@ -54,7 +53,7 @@ elsewhere_long e ok s s' c = long e s s' c.answer c.meets
 
 module _
     -- an accepted fold of a sequence q
-    (q : List ℕ) (gap : ℕ) (b₀ b t₀ t o₀ o : List ℕ) (r : Record) (m : ℕ) (f : Folds q gap b₀ b t₀ t o₀ o (Folded r m))
+    (q : List ℕ) (gap : ℕ) (b₀ b t₀ t o₀ o : List ℕ) (r : Record) (m : ℕ) (f : Folds q gap b₀ b t₀ t o₀ o (Ok (r, m)))
     -- any run of edits from it
     (l : List (Edit × Bool)) (s : State) (run : Run Call l (state r m b t) s) (k : ℕ) where
   pub elsewhere_run_bytes : longest l q ≤ k → view s.bases k ≡ view b k

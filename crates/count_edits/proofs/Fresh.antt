@@ -1,4 +1,4 @@
--- DEMAND 3. After any run of edits from an accepted fold, length and gap, count, bases, cells and structure are those of every accepted fresh
+-- After any run of edits from an accepted fold, length and gap, count, bases, cells and structure are those of every accepted fresh
 -- fold, at the same gap, of the sequence that the accepted edits spell; and the structure has the most pairs. Assumes nothing.
 use mathlib.Core.Path.{◌≡◌, refl, ap, ◌∙◌, sym}
 use mathlib.Core.Bool.{Bool}
@@ -7,6 +7,7 @@ use Prim.Native.Nat.{ℕ, ◌≤◌, ◌<◌}
 use native.Mathlib.Omega.{arith}
 use lib.ListN.{length, take, drop, length-map, take-append-drop}
 use lib.Seq.{ext_get_or, get_or-take, length-take-le}
+use Rattle.std.proofs.Common.{Ok}
 use Rattle.refusals.specs.Refusals.{clear}
 use Rattle.bases.specs.Bases.{normal}
 use Rattle.structure.specs.Table.{view}
@@ -21,12 +22,10 @@ use Rattle.count_trace.specs.Trace.{traced_of}
 use Rattle.count_trace.proofs.Same.{traced_same}
 use Rattle.count_trace.proofs.Reached.{traced_long}
 use Rattle.counting.specs.declared.Record.{Record}
-use Rattle.counting.specs.declared.Counted.TheVariants.{Folded}
 use Rattle.counting.specs.Calls.{count_of, record_of, Folds}
 use Rattle.counting.specs.Greatest.{Greatest}
 use Rattle.counting.proofs.Accepted.{foldable}
 use Rattle.counting.proofs.MostPairs.{most_pairs, fold_taken}
-use Rattle.count_edits.specs.declared.Traced.TheVariants.{Pairs}
 use Rattle.count_edits.specs.Calls.{Traces}
 use Rattle.count_edits.specs.Histories.{State, state, Call, AsFolded}
 use Rattle.count_edits.proofs.Accepted.{trace_clear}
@@ -41,7 +40,7 @@ take_same n a b h l e =
 -- a good state is as any fold of its sequence left it
 module _
     (q : List ℕ) (gap : ℕ) (s : State) (g : Good counts gap q s)
-    (b b' t t' o o' : List ℕ) (r : Record) (m : ℕ) (f : Folds q gap b b' t t' o o' (Folded r m)) where
+    (b b' t t' o o' : List ℕ) (r : Record) (m : ℕ) (f : Folds q gap b b' t t' o o' (Ok (r, m))) where
   same : Alike counts s (state r m b' t')
   same = alike counts gap q s (state r m b' t') g (good_fold q gap b b' t t' o o' r m f)
 
@@ -49,7 +48,7 @@ module _
   long = ap (λ (x : Record). x.length) f.1
 
   same_structure :
-      (u u' : List ℕ) (v : ℕ) → Traces s.kept s.bases s.cells u u' (Pairs v) →
+      (u u' : List ℕ) (v : ℕ) → Traces s.kept s.bases s.cells u u' (Ok v) →
       (v ≡ m) × (take r.length u' ≡ take r.length o')
   unfolding count_of
   same_structure u u' v d =
@@ -78,8 +77,8 @@ module _
 
 -- a good state, with what the traceback gives, is what a fold of its sequence into that very memory leaves
 refolds :
-    (q : List ℕ) (gap : ℕ) (s : State) → Good counts gap q s → (u u' : List ℕ) (v : ℕ) → Traces s.kept s.bases s.cells u u' (Pairs v) →
-    Folds q gap s.bases s.bases s.cells s.cells u u' (Folded (record_of (length q) gap) v)
+    (q : List ℕ) (gap : ℕ) (s : State) → Good counts gap q s → (u u' : List ℕ) (v : ℕ) → Traces s.kept s.bases s.cells u u' (Ok v) →
+    Folds q gap s.bases s.bases s.cells s.cells u u' (Ok (record_of (length q) gap, v))
 refolds q gap s g u u' v d =
     let n = length q in
     let b = s.bases in
@@ -106,11 +105,11 @@ refolds q gap s g u u' v d =
 
 pub after_any_run :
     -- an accepted fold of a sequence q
-    (q : List ℕ) (gap : ℕ) (b₀ b t₀ t o₀ o : List ℕ) (r : Record) (m : ℕ) → Folds q gap b₀ b t₀ t o₀ o (Folded r m) →
+    (q : List ℕ) (gap : ℕ) (b₀ b t₀ t o₀ o : List ℕ) (r : Record) (m : ℕ) → Folds q gap b₀ b t₀ t o₀ o (Ok (r, m)) →
     -- any run of edits from it, each accepted or refused, each as its own contract permits
     (l : List (Edit × Bool)) (s : State) → Run Call l (state r m b t) s →
     -- any accepted fold, at the same gap, of the letters that the accepted edits spell
-    (b₁ b' t₁ t' o₁ o' : List ℕ) (r' : Record) (m' : ℕ) → Folds (map normal (spelled l q)) gap b₁ b' t₁ t' o₁ o' (Folded r' m') →
+    (b₁ b' t₁ t' o₁ o' : List ℕ) (r' : Record) (m' : ℕ) → Folds (map normal (spelled l q)) gap b₁ b' t₁ t' o₁ o' (Ok (r', m')) →
     -- what the run left is as that fold left it
     AsFolded s r' m' b' t' o'
 after_any_run q gap b₀ b t₀ t o₀ o r m f l s run b₁ b' t₁ t' o₁ o' r' m' fresh =
@@ -118,11 +117,11 @@ after_any_run q gap b₀ b t₀ t o₀ o r m f l s run b₁ b' t₁ t' o₁ o' r
 
 module _
     -- an accepted fold of a sequence q
-    (q : List ℕ) (gap : ℕ) (b₀ b t₀ t o₀ o : List ℕ) (r : Record) (m : ℕ) (f : Folds q gap b₀ b t₀ t o₀ o (Folded r m))
+    (q : List ℕ) (gap : ℕ) (b₀ b t₀ t o₀ o : List ℕ) (r : Record) (m : ℕ) (f : Folds q gap b₀ b t₀ t o₀ o (Ok (r, m)))
     -- any run of edits from it, each accepted or refused, each as its own contract permits
     (l : List (Edit × Bool)) (s : State) (run : Run Call l (state r m b t) s)
     -- an accepted traceback from what the run left
-    (u u' : List ℕ) (v : ℕ) (d : Traces s.kept s.bases s.cells u u' (Pairs v)) where
+    (u u' : List ℕ) (v : ℕ) (d : Traces s.kept s.bases s.cells u u' (Ok v)) where
   -- its structure is allowed, has so many pairs, and no allowed structure of what was spelled has more
   pub after_any_run_most : Greatest (map normal (spelled l q)) gap (take s.kept.length u') v
   after_any_run_most =

@@ -7,8 +7,9 @@ use Prim.Native.Nat.{ℕ, ◌+◌, ◌-◌, ◌≤◌, ◌<◌}
 use native.Mathlib.Omega.{arith}
 use lib.ListN.{length, drop, set, length-set, length-append, length-map, get_or-append}
 use lib.Seq.{get_or-set_same, get_or-set_other}
+use Rattle.std.proofs.Common.{Err, Ok, Some}
+use Rattle.count_edits.specs.Calls.{Edited}
 use Rattle.refusals.specs.Refusals.{clear, fold_limit}
-use Rattle.refusals.specs.declared.Place.TheVariants.{At}
 use Rattle.refusals.proofs.Laws.{each_clear, clear_each, check_clear}
 use Rattle.bases.specs.Bases.{no_base, normal}
 use Rattle.bases.proofs.Laws.{normal_base, normal_again}
@@ -24,12 +25,9 @@ use Rattle.edits.proofs.Histories.{good_letters, good_runs}
 use Rattle.count_rule.specs.Rule.{nussinov, Half}
 use Rattle.count_rule.proofs.Laws.{nussinov_local, nussinov_keeps}
 use Rattle.counting.specs.declared.Record.{Record}
-use Rattle.counting.specs.declared.Counted.TheVariants.{Folded}
 use Rattle.counting.specs.Checks.{fold_due}
 use Rattle.counting.specs.Calls.{count_of, Folds}
 use Rattle.counting.proofs.Accepted.{foldable, accepted as allowed}
-use Rattle.count_edits.specs.declared.Edited.{Edited}
-use Rattle.count_edits.specs.declared.Edited.TheVariants.{Done, Refused}
 use Rattle.count_edits.specs.Histories.{State, state, Meets, outcome, Call}
 use Rattle.count_edits.proofs.Accepted.{replace_clear, add_clear, erase_clear}
 
@@ -68,7 +66,7 @@ module _ (s s' : State) where
     off = λ k n. sym (ap (λ (l : List ℕ). view l k) e ∙ get_or-set_other s.bases p k x 0 n);
   }
 
-  made : (e : Edit) (r : Record) (m : ℕ) → Meets e s s' (Done r m) → s'.kept ≡ r → s'.figure ≡ m → Made counts e s s'
+  made : (e : Edit) (r : Record) (m : ℕ) → Meets e s s' (Ok (r, m)) → s'.kept ≡ r → s'.figure ≡ m → Made counts e s s'
   unfolding count_of
   made (replace p x) r m c k f =
       let n = s.kept.length in
@@ -114,10 +112,10 @@ module _ (s s' : State) where
   unmoved k f b c = λ i. record { kept = k i; figure = f i; bases = b i; cells = c i }
 
   met : (e : Edit) (a : Edited) → Meets e s s' a → Holds (outcome a) s s' → Does counts e (accepted (outcome a)) s s'
-  met e (Done r m) c h = made e r m c h.0 h.1
-  met (replace p x) (Refused q r) c h = unmoved (h.0 ∙ c.1) h.1 c.2 c.3
-  met (add x) (Refused q r) c h = unmoved (h.0 ∙ c.1) h.1 c.2 c.3
-  met erase (Refused q r) c h = unmoved (h.0 ∙ c.0.1) h.1 c.1 c.2
+  met e (Ok (r, m)) c h = made e r m c h.0 h.1
+  met (replace p x) (Err (q, r)) c h = unmoved (h.0 ∙ c.1) h.1 c.2 c.3
+  met (add x) (Err (q, r)) c h = unmoved (h.0 ∙ c.1) h.1 c.2 c.3
+  met erase (Err (q, r)) c h = unmoved (h.0 ∙ c.0.1) h.1 c.1 c.2
 
 pub does : (e : Edit) (ok : Bool) (s s' : State) → Call e ok s s' → Does counts e ok s s'
 does e ok s s' c = rw c.verdict (met s s' e c.answer c.meets c.holds)
@@ -126,7 +124,7 @@ does e ok s s' c = rw c.verdict (met s s' e c.answer c.meets c.holds)
 
 -- the state that a fold leaves
 pub good_fold :
-    (q : List ℕ) (gap : ℕ) (b b' t t' o o' : List ℕ) (r : Record) (m : ℕ) → Folds q gap b b' t t' o o' (Folded r m) →
+    (q : List ℕ) (gap : ℕ) (b b' t t' o o' : List ℕ) (r : Record) (m : ℕ) → Folds q gap b b' t t' o o' (Ok (r, m)) →
     Good counts gap q (state r m b' t')
 unfolding count_of bases_due
 good_fold q gap b b' t t' o o' r m f =
@@ -144,7 +142,7 @@ good_fold q gap b b' t t' o o' r m f =
       };
       figure = f.3;
       some = u.some;
-      each = λ k h. check_clear (no_base (view q k)) 2 (At k) (each_clear (base_due (view q)) (length q) u.each k h);
+      each = λ k h. check_clear (no_base (view q k)) 2 (Some k) (each_clear (base_due (view q)) (length q) u.each k h);
       room = record { short = u.short; bases = omega arith; cells = omega (arith, u.cells, d.cells.long) };
     })
 
@@ -167,7 +165,7 @@ good_accepted gap q s g b t o hb ht ho =
 
 -- the state that any run of calls leaves: that of what was spelled, and so of its letters
 module _
-    (q : List ℕ) (gap : ℕ) (b₀ b t₀ t o₀ o : List ℕ) (r : Record) (m : ℕ) (f : Folds q gap b₀ b t₀ t o₀ o (Folded r m))
+    (q : List ℕ) (gap : ℕ) (b₀ b t₀ t o₀ o : List ℕ) (r : Record) (m : ℕ) (f : Folds q gap b₀ b t₀ t o₀ o (Ok (r, m)))
     (l : List (Edit × Bool)) (s : State) (run : Run Call l (state r m b t) s) where
   pub good_run : Good counts gap (map normal (spelled l q)) s
   good_run =

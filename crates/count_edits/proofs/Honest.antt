@@ -1,5 +1,5 @@
--- Demand 3 speaks of something. After any run of edits from an accepted fold, a further call is refused only for its own argument or for want
--- of room; and with room a traceback, and a fresh fold of what was spelled, are accepted. Assumes nothing.
+-- The theorems on runs of edits speak of something. After any run of edits from an accepted fold, a further call is refused only for
+-- its own argument or for want of room; and with room a traceback, and a fresh fold of what was spelled, are accepted. Assumes nothing.
 use mathlib.Core.Path.{◌≡◌, ap, ◌∙◌}
 use mathlib.Core.Bool.{Bool}
 use mathlib.Core.List.{List, map}
@@ -7,6 +7,7 @@ use Prim.Native.Nat.{ℕ, ◌≤◌}
 use native.Mathlib.Omega.{arith}
 use borrow.Author.Tests.{le-ltb}
 use lib.ListN.{length, length-map}
+use Rattle.std.proofs.Common.{Ok}
 use Rattle.refusals.specs.Refusals.{clear}
 use Rattle.bases.specs.Bases.{normal, is_kept}
 use Rattle.bases.proofs.Laws.{normal_kept}
@@ -21,7 +22,6 @@ use Rattle.edits.specs.Kinds.{Good}
 use Rattle.count_rule.specs.Rule.{nussinov, Half}
 use Rattle.count_rule.proofs.Laws.{nussinov_keeps}
 use Rattle.counting.specs.declared.Record.{Record}
-use Rattle.counting.specs.declared.Counted.TheVariants.{Folded}
 use Rattle.counting.specs.Checks.{fold_due}
 use Rattle.counting.specs.Calls.{Folds}
 use Rattle.count_kept.specs.Checks.{all_kept, kept_due}
@@ -48,7 +48,7 @@ good_clear gap q s g =
 
 module _
     -- an accepted fold of a sequence q
-    (q : List ℕ) (gap : ℕ) (b₀ b t₀ t o₀ o : List ℕ) (r : Record) (m : ℕ) (f : Folds q gap b₀ b t₀ t o₀ o (Folded r m))
+    (q : List ℕ) (gap : ℕ) (b₀ b t₀ t o₀ o : List ℕ) (r : Record) (m : ℕ) (f : Folds q gap b₀ b t₀ t o₀ o (Ok (r, m)))
     -- any run of edits from it
     (l : List (Edit × Bool)) (s : State) (run : Run Call l (state r m b t) s) where
   -- no later call is refused for its record, its room at the present length, or its contents

@@ -1,16 +1,13 @@
--- DEMAND 3 in terms of the public pair-count calls:
+-- That any run of edits equals a fresh fold, in terms of the public pair-count calls:
 -- what a caller holds between calls, what a call does to it by the call's own contract, and
 -- what it is to be as a fresh fold leaves it. Assumes nothing: these are definitions.
-use Rattle.std.specs.Prelude.{◌≡◌, Bool, List, ℕ, ◌≤◌, ◌<◌, take}
+use Rattle.std.specs.Prelude.{◌≡◌, Bool, List, ℕ, ◌≤◌, ◌<◌, take, Ok, Err}
 use Rattle.structure.specs.Table.{view}
 use Rattle.cells.specs.Fill.{at}
 use Rattle.edits.specs.Edits.{Edit, replace, add, erase}
 use Rattle.edits.specs.Runs.{State as StateOf, Outcome, done, refused, Call as CallOf}
 use Rattle.counting.specs.declared.Record.{Record}
-use Rattle.count_edits.specs.declared.Edited.{Edited}
-use Rattle.count_edits.specs.declared.Edited.TheVariants.{Done, Refused}
-use Rattle.count_edits.specs.declared.Traced.TheVariants.{Pairs}
-use Rattle.count_edits.specs.Calls.{Replaces, Adds, Erases, Traces}
+use Rattle.count_edits.specs.Calls.{Edited, Replaces, Adds, Erases, Traces}
 
 -- what a caller holds: the last record and count, the kept bases and the cells
 abbrev pub State : Type 0
@@ -28,8 +25,8 @@ Meets erase s s' a = Erases s.kept s.bases s.cells a × (s'.bases ≡ s.bases) �
 
 -- what its answer hands back
 abbrev pub outcome : Edited → Outcome Record ℕ
-outcome (Done r m) = done r m
-outcome (Refused q r) = refused r
+outcome (Ok (r, m)) = done r m
+outcome (Err (q, r)) = refused r
 
 -- a call of `replace`, `add` or `erase`, accepted or refused, that is handed what the one before left
 abbrev pub Call : Edit → Bool → State → State → Type 0
@@ -47,5 +44,5 @@ pub record AsFolded (s : State) (r : Record) (m : ℕ) (b t o : List ℕ) : Type
   pub cells : (i j : ℕ) → i ≤ j → j < r.length → at (view s.cells) i j ≡ at (view t) i j
   -- the structure that `traceback` gives, and its count
   pub structure :
-      (u u' : List ℕ) (v : ℕ) → Traces s.kept s.bases s.cells u u' (Pairs v) →
+      (u u' : List ℕ) (v : ℕ) → Traces s.kept s.bases s.cells u u' (Ok v) →
       (v ≡ m) × (take r.length u' ≡ take r.length o)

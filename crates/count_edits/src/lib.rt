@@ -1,127 +1,141 @@
 // Edits of a fold that counted pairs, and the traceback from its record, over the memory that the caller kept.
 #![tactic(auto)]
 
-ghost use Rattle.count_edits.specs.Calls.{Replaces, Adds, Erases, Traces};
+ghost use Rattle.count_edits.specs.Calls.{with_record, Replaces, Adds, Erases, Traces};
 
-use bases::Reading;
 use counting::Record;
-use refusals::{FOLD_LIMIT, Refusal, Verdict};
+use refusals::{FOLD_LIMIT, Refusal};
 
 // The place that is told of an edit's byte, which is its only one.
 const EDIT_PLACE: usize = 0;
 
-// The record and the count after an edit, or the refusal with the record as it came.
-#[derive(Clone, Copy)]
-pub enum Edited {
-    Done(Record, usize),
-    Refused(Refusal, Record),
-}
-
-// The number of pairs traced, or the refusal.
-#[derive(Clone, Copy)]
-pub enum Traced {
-    Pairs(usize),
-    Refused(Refusal),
-}
-
-// The base at a position becomes that of a byte, and the cells over it are rewritten. Checks 11, 4, 11, 10, 2.
+// The base at a position becomes that of a byte, and the cells over it are rewritten: the record and the count after it,
+// or the refusal with the record as it came. Checks 11, 4, 11, 10, 2.
 pub fn replace(
     held: Record,
     bases: &mut [u8],
     cells: &mut [u16],
     position: usize,
     byte: u8,
-) -> Edited
+) -> Result<(Record, usize), (Refusal, Record)>
     ensures { Replaces held bases.old bases.new cells.old cells.new position byte result }
 {
+    replaced(held, bases, cells, position, byte).map_err(|refusal| (refusal, held))
+}
+
+// What `replace` answers, the refusal without the record.
+#[tactic(auto, using(crate::proofs::Accepted::reading), unfolding(crate::specs::Checks::replace_due))]
+fn replaced(
+    held: Record,
+    bases: &mut [u8],
+    cells: &mut [u16],
+    position: usize,
+    byte: u8,
+) -> Result<(Record, usize), Refusal>
+    ensures { Replaces held bases.old bases.new cells.old cells.new position byte (with_record held result) }
+{
     let n = held.length;
-    let verdict = count_kept::kept_checks(n, bases, cells);
-    if let Verdict::Refuse(refusal) = verdict {
-        return Edited::Refused(refusal, held);
-    }
+    count_kept::kept_checks(n, bases, cells)?;
     if n <= position {
-        return Edited::Refused(Refusal::Outside, held);
+        return Err(Refusal::Outside);
     }
-    let reading = bases::read_base(byte);
-    let Reading::Is(base) = reading else {
-        return Edited::Refused(Refusal::NoBase(EDIT_PLACE), held);
-    };
+    let base = bases::read_base(byte).ok_or(Refusal::NoBase(EDIT_PLACE))?;
     bases[position] = bases::letter(base);
     count_fill::columns(bases, cells, position, position, n, held.gap);
-    Edited::Done(held, counting::count(cells, n))
+    Ok((held, counting::count(cells, n)))
 }
 
-// The base of a byte is added at the end, and its column is written. Checks 11, 4, 11, 2, 3, 4.
-pub fn add(held: Record, bases: &mut [u8], cells: &mut [u16], byte: u8) -> Edited
+// The base of a byte is added at the end, and its column is written: the longer record and the count after it,
+// or the refusal with the record as it came. Checks 11, 4, 11, 2, 3, 4.
+pub fn add(
+    held: Record,
+    bases: &mut [u8],
+    cells: &mut [u16],
+    byte: u8,
+) -> Result<(Record, usize), (Refusal, Record)>
     ensures { Adds held bases.old bases.new cells.old cells.new byte result }
 {
-    let n = held.length;
-    let verdict = count_kept::kept_checks(n, bases, cells);
-    if let Verdict::Refuse(refusal) = verdict {
-        return Edited::Refused(refusal, held);
-    }
-    let reading = bases::read_base(byte);
-    let Reading::Is(base) = reading else {
-        return Edited::Refused(Refusal::NoBase(EDIT_PLACE), held);
-    };
-    if FOLD_LIMIT <= n {
-        return Edited::Refused(Refusal::TooLong, held);
-    }
-    let longer = n + 1;
-    if bases.len() < longer {
-        return Edited::Refused(Refusal::TooShort, held);
-    }
-    if cells.len() < cells::place(0, longer) {
-        return Edited::Refused(Refusal::TooShort, held);
-    }
-    let gap = held.gap;
-    bases[n] = bases::letter(base);
-    count_fill::columns(bases, cells, n, n, longer, gap);
-    Edited::Done(
-        Record {
-            length: longer,
-            gap,
-        },
-        counting::count(cells, longer),
-    )
+    added(held, bases, cells, byte).map_err(|refusal| (refusal, held))
 }
 
-// The last base is taken away; its byte and its cells stand, as spare memory. Checks 11, 4, 11, 1.
-#[tactic(auto, unfolding(crate::specs::Checks::erase_due))]
-pub fn erase(held: Record, bases: &[u8], cells: &[u16]) -> Edited
-    ensures { Erases held bases.now cells.now result }
+// What `add` answers, the refusal without the record.
+#[tactic(auto, using(crate::proofs::Accepted::reading), unfolding(crate::specs::Checks::add_due))]
+fn added(
+    held: Record,
+    bases: &mut [u8],
+    cells: &mut [u16],
+    byte: u8,
+) -> Result<(Record, usize), Refusal>
+    ensures { Adds held bases.old bases.new cells.old cells.new byte (with_record held result) }
 {
     let n = held.length;
-    let verdict = count_kept::kept_checks(n, bases, cells);
-    if let Verdict::Refuse(refusal) = verdict {
-        return Edited::Refused(refusal, held);
+    count_kept::kept_checks(n, bases, cells)?;
+    let base = bases::read_base(byte).ok_or(Refusal::NoBase(EDIT_PLACE))?;
+    if FOLD_LIMIT <= n {
+        return Err(Refusal::TooLong);
     }
-    if n == 1 {
-        return Edited::Refused(Refusal::Empty, held);
+    let longer = n + 1;
+    if bases.len() < longer || cells.len() < cells::place(0, longer) {
+        return Err(Refusal::TooShort);
     }
-    let shorter = n - 1;
-    let gap = held.gap;
-    Edited::Done(
+    bases[n] = bases::letter(base);
+    count_fill::columns(bases, cells, n, n, longer, held.gap);
+    Ok((
         Record {
-            length: shorter,
-            gap,
+            length: longer,
+            ..held
         },
-        counting::count(cells, shorter),
-    )
+        counting::count(cells, longer),
+    ))
 }
 
-// The structure that the kept bases and cells lead to. Checks 11, 4, 11, 4.
-pub fn traceback(held: Record, bases: &[u8], cells: &[u16], pairs: &mut [u16]) -> Traced
+// The last base is taken away; its byte and its cells stand, as spare memory: the shorter record and the count of what is left,
+// or the refusal with the record as it came. Checks 11, 4, 11, 1.
+pub fn erase(
+    held: Record,
+    bases: &[u8],
+    cells: &[u16],
+) -> Result<(Record, usize), (Refusal, Record)>
+    ensures { Erases held bases.now cells.now result }
+{
+    erased(held, bases, cells).map_err(|refusal| (refusal, held))
+}
+
+// What `erase` answers, the refusal without the record.
+#[tactic(auto, unfolding(crate::specs::Checks::erase_due))]
+fn erased(held: Record, bases: &[u8], cells: &[u16]) -> Result<(Record, usize), Refusal>
+    ensures { Erases held bases.now cells.now (with_record held result) }
+{
+    let n = held.length;
+    count_kept::kept_checks(n, bases, cells)?;
+    if n == 1 {
+        return Err(Refusal::Empty);
+    }
+    let shorter = n - 1;
+    Ok((
+        Record {
+            length: shorter,
+            ..held
+        },
+        counting::count(cells, shorter),
+    ))
+}
+
+// The structure that the kept bases and cells lead to: the number of its pairs. Checks 11, 4, 11, 4.
+#[tactic(auto, unfolding(crate::specs::Checks::trace_due))]
+pub fn traceback(
+    held: Record,
+    bases: &[u8],
+    cells: &[u16],
+    pairs: &mut [u16],
+) -> Result<usize, Refusal>
     ensures { Traces held bases.now cells.now pairs.old pairs.new result }
 {
     let n = held.length;
-    let verdict = count_kept::kept_checks(n, bases, cells);
-    if let Verdict::Refuse(refusal) = verdict {
-        return Traced::Refused(refusal);
-    }
+    count_kept::kept_checks(n, bases, cells)?;
     if pairs.len() < n {
-        return Traced::Refused(Refusal::TooShort);
+        return Err(Refusal::TooShort);
     }
     count_trace::traceback(bases, cells, held.gap, n, pairs);
-    Traced::Pairs(counting::count(cells, n))
+    Ok(counting::count(cells, n))
 }
