@@ -1,19 +1,17 @@
-// Answers as structs of numbers, for C.
+// Answers as structs of numbers, for C: a struct's number is the refusal's, 0 where there is none, as C reads it.
 #![tactic(auto)]
 
 ghost use Rattle.std.specs.Prelude.{◌≡◌};
-ghost use Rattle.flat.specs.Flat.{flat_place, flat_refusal, flat_answer, flat_pairing, flat_partner};
-ghost use Rattle.flat.specs.Flat.{flat_counted, flat_edited, flat_traced, flat_least};
+ghost use Rattle.bases.specs.Bases.{told};
+ghost use Rattle.flat.specs.Flat.{flat_place, flat_base, flat_refusal, flat_answer, flat_pairing, flat_partner};
+ghost use Rattle.flat.specs.Flat.{flat_made, flat_unmade, flat_counted, flat_edited, flat_least, record_in, record_out};
 
-use count_edits::{Edited, Traced};
-use counting::Counted;
-use energy::Minimum;
-use queries::{Mate, Pairing};
-use refusals::{Place, Refusal};
-use structure::Answer;
+use bases::Base;
+use counting::Record;
+use refusals::Refusal;
 
 #[repr(C)]
-#[derive(Clone, Copy)]
+#[derive(Clone, Copy, Debug, PartialEq, Eq)]
 pub struct YkmBase {
     pub number: u32,
     pub place: usize,
@@ -21,7 +19,7 @@ pub struct YkmBase {
 }
 
 #[repr(C)]
-#[derive(Clone, Copy)]
+#[derive(Clone, Copy, Debug, PartialEq, Eq)]
 pub struct YkmAnswer {
     pub number: u32,
     pub place: usize,
@@ -29,14 +27,14 @@ pub struct YkmAnswer {
 }
 
 #[repr(C)]
-#[derive(Clone, Copy)]
+#[derive(Clone, Copy, Debug, PartialEq, Eq)]
 pub struct YkmRecord {
     pub length: usize,
     pub gap: usize,
 }
 
 #[repr(C)]
-#[derive(Clone, Copy)]
+#[derive(Clone, Copy, Debug, PartialEq, Eq)]
 pub struct YkmCounted {
     pub number: u32,
     pub place: usize,
@@ -45,144 +43,162 @@ pub struct YkmCounted {
 }
 
 #[repr(C)]
-#[derive(Clone, Copy)]
+#[derive(Clone, Copy, Debug, PartialEq, Eq)]
 pub struct YkmLeast {
     pub number: u32,
     pub place: usize,
     pub energy: i32,
 }
 
-pub fn flat_place(place: Place) -> usize
+// No place is the largest number.
+fn flat_place(place: Option<usize>) -> usize
     ensures { result ≡ flat_place place }
 {
-    match place {
-        Place::Nowhere => usize::MAX,
-        Place::At(k) => k,
-    }
+    place.unwrap_or(usize::MAX)
 }
 
-pub fn flat_refusal(refusal: Refusal) -> YkmAnswer
-    ensures { result ≡ flat_refusal refusal }
-{
-    YkmAnswer {
-        number: refusals::number_of(refusal),
-        place: flat_place(refusals::place_of(refusal)),
-        value: 0,
-    }
-}
+impl From<Option<Base>> for YkmBase {
+    ghost from_gives = { λ base r. r ≡ flat_base (told base) };
 
-pub fn flat_number(value: usize) -> YkmAnswer
-    ensures { result ≡ flat_answer (Answer.Number value) }
-{
-    YkmAnswer {
-        number: 0,
-        place: flat_place(Place::Nowhere),
-        value,
-    }
-}
-
-pub fn flat_answer(answer: Answer) -> YkmAnswer
-    ensures { result ≡ flat_answer answer }
-{
-    match answer {
-        Answer::Number(value) => flat_number(value),
-        Answer::Refused(refusal) => flat_refusal(refusal),
-    }
-}
-
-pub fn flat_pairing(pairing: Pairing) -> YkmAnswer
-    ensures { result ≡ flat_pairing pairing }
-{
-    match pairing {
-        Pairing::Paired(paired) => {
-            if paired {
-                return flat_number(1);
-            }
-            flat_number(0)
+    fn from(base: Option<Base>) -> Self {
+        let (number, place, letter) = match base {
+            Some(base) => (0, None, bases::letter(base)),
+            None => (Refusal::NoBase(0).number(), Some(0), 0),
+        };
+        YkmBase {
+            number,
+            place: flat_place(place),
+            letter,
         }
-        Pairing::Refused(refusal) => flat_refusal(refusal),
     }
 }
 
-pub fn flat_partner(partner: Mate) -> YkmAnswer
-    ensures { result ≡ flat_partner partner }
-{
-    match partner {
-        Mate::With(j) => flat_number(j),
-        Mate::Nobody => flat_number(flat_place(Place::Nowhere)),
-        Mate::Refused(refusal) => flat_refusal(refusal),
+impl From<Refusal> for YkmAnswer {
+    ghost from_gives = { λ refusal r. r ≡ flat_refusal refusal };
+
+    fn from(refusal: Refusal) -> Self {
+        YkmAnswer {
+            number: refusal.number(),
+            place: flat_place(refusal.place()),
+            value: 0,
+        }
     }
 }
 
-pub fn flat_counted(counted: Counted) -> YkmCounted
-    ensures { result ≡ flat_counted counted }
-{
-    match counted {
-        Counted::Folded(folded, count) => YkmCounted {
-            number: 0,
-            place: flat_place(Place::Nowhere),
-            kept: YkmRecord {
-                length: folded.length,
-                gap: folded.gap,
+impl From<Result<usize, Refusal>> for YkmAnswer {
+    ghost from_gives = { λ answer r. r ≡ flat_answer answer };
+
+    fn from(answer: Result<usize, Refusal>) -> Self {
+        match answer {
+            Ok(value) => YkmAnswer {
+                number: 0,
+                place: flat_place(None),
+                value,
             },
-            count,
-        },
-        Counted::Refused(refusal) => YkmCounted {
-            number: refusals::number_of(refusal),
-            place: flat_place(refusals::place_of(refusal)),
-            kept: YkmRecord { length: 0, gap: 0 },
-            count: 0,
-        },
+            Err(refusal) => refusal.into(),
+        }
     }
 }
 
-pub fn flat_edited(edited: Edited) -> YkmCounted
-    ensures { result ≡ flat_edited edited }
+impl From<Result<bool, Refusal>> for YkmAnswer {
+    ghost from_gives = { λ pairing r. r ≡ flat_pairing pairing };
+
+    fn from(pairing: Result<bool, Refusal>) -> Self {
+        pairing.map(usize::from).into()
+    }
+}
+
+impl From<Result<Option<usize>, Refusal>> for YkmAnswer {
+    ghost from_gives = { λ partner r. r ≡ flat_partner partner };
+
+    fn from(partner: Result<Option<usize>, Refusal>) -> Self {
+        partner.map(flat_place).into()
+    }
+}
+
+impl From<Record> for YkmRecord {
+    ghost from_gives = { λ kept r. r ≡ record_out kept };
+
+    fn from(kept: Record) -> Self {
+        YkmRecord {
+            length: kept.length,
+            gap: kept.gap,
+        }
+    }
+}
+
+impl From<YkmRecord> for Record {
+    ghost from_gives = { λ held r. r ≡ record_in held };
+
+    fn from(held: YkmRecord) -> Self {
+        Record {
+            length: held.length,
+            gap: held.gap,
+        }
+    }
+}
+
+// A fold or an edit that was made.
+fn accepted(kept: Record, count: usize) -> YkmCounted
+    ensures { result ≡ flat_made kept count }
 {
-    match edited {
-        Edited::Done(made, count) => YkmCounted {
-            number: 0,
-            place: flat_place(Place::Nowhere),
-            kept: YkmRecord {
-                length: made.length,
-                gap: made.gap,
+    YkmCounted {
+        number: 0,
+        place: flat_place(None),
+        kept: kept.into(),
+        count,
+    }
+}
+
+// One that was refused, with the record that goes back.
+fn refused(refusal: Refusal, kept: YkmRecord) -> YkmCounted
+    ensures { result ≡ flat_unmade refusal kept }
+{
+    YkmCounted {
+        number: refusal.number(),
+        place: flat_place(refusal.place()),
+        kept,
+        count: 0,
+    }
+}
+
+impl From<Result<(Record, usize), Refusal>> for YkmCounted {
+    ghost from_gives = { λ counted r. r ≡ flat_counted counted };
+
+    fn from(counted: Result<(Record, usize), Refusal>) -> Self {
+        match counted {
+            Ok((folded, count)) => accepted(folded, count),
+            Err(refusal) => refused(refusal, YkmRecord { length: 0, gap: 0 }),
+        }
+    }
+}
+
+impl From<Result<(Record, usize), (Refusal, Record)>> for YkmCounted {
+    ghost from_gives = { λ edited r. r ≡ flat_edited edited };
+
+    fn from(edited: Result<(Record, usize), (Refusal, Record)>) -> Self {
+        match edited {
+            Ok((made, count)) => accepted(made, count),
+            Err((refusal, back)) => refused(refusal, back.into()),
+        }
+    }
+}
+
+impl From<Result<i32, Refusal>> for YkmLeast {
+    ghost from_gives = { λ minimum r. r ≡ flat_least minimum };
+
+    fn from(minimum: Result<i32, Refusal>) -> Self {
+        match minimum {
+            Ok(energy) => YkmLeast {
+                number: 0,
+                place: flat_place(None),
+                energy,
             },
-            count,
-        },
-        Edited::Refused(refusal, back) => YkmCounted {
-            number: refusals::number_of(refusal),
-            place: flat_place(refusals::place_of(refusal)),
-            kept: YkmRecord {
-                length: back.length,
-                gap: back.gap,
+            Err(refusal) => YkmLeast {
+                number: refusal.number(),
+                place: flat_place(refusal.place()),
+                energy: 0,
             },
-            count: 0,
-        },
-    }
-}
-
-pub fn flat_traced(traced: Traced) -> YkmAnswer
-    ensures { result ≡ flat_traced traced }
-{
-    match traced {
-        Traced::Pairs(count) => flat_number(count),
-        Traced::Refused(refusal) => flat_refusal(refusal),
-    }
-}
-
-pub fn flat_least(minimum: Minimum) -> YkmLeast
-    ensures { result ≡ flat_least minimum }
-{
-    match minimum {
-        Minimum::Energy(energy) => YkmLeast {
-            number: 0,
-            place: flat_place(Place::Nowhere),
-            energy,
-        },
-        Minimum::Refused(refusal) => YkmLeast {
-            number: refusals::number_of(refusal),
-            place: flat_place(refusals::place_of(refusal)),
-            energy: 0,
-        },
+        }
     }
 }

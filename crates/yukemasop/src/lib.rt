@@ -12,12 +12,9 @@ ghost use Rattle.counting.specs.Calls.{Folds};
 ghost use Rattle.count_edits.specs.Calls.{Replaces, Adds, Erases, Traces};
 ghost use Rattle.energy.specs.Calls.{Folds as EnergyFolds};
 ghost use Rattle.flat.specs.Flat.{flat_base, flat_answer, flat_pairing, flat_partner};
-ghost use Rattle.flat.specs.Flat.{flat_counted, flat_edited, flat_traced, flat_least, record_in, Flat};
+ghost use Rattle.flat.specs.Flat.{flat_counted, flat_edited, flat_least, record_in, Flat};
 
-use bases::Reading;
-use counting::Record;
 use flat::{YkmAnswer, YkmBase, YkmCounted, YkmLeast, YkmRecord};
-use refusals::{Place, Refusal};
 
 // 0.1.0, as major × 10,000 + minor × 100 + patch.
 pub const VERSION: u32 = 100;
@@ -33,20 +30,7 @@ pub extern "C" fn ykm_version() -> u32
 pub extern "C" fn ykm_read_base(byte: u8) -> YkmBase
     ensures { result ≡ flat_base (reads byte) }
 {
-    let reading = bases::read_base(byte);
-    let Reading::Is(base) = reading else {
-        let refusal = Refusal::NoBase(0);
-        return YkmBase {
-            number: refusals::number_of(refusal),
-            place: flat::flat_place(refusals::place_of(refusal)),
-            letter: 0,
-        };
-    };
-    YkmBase {
-        number: 0,
-        place: flat::flat_place(Place::Nowhere),
-        letter: bases::letter(base),
-    }
+    bases::read_base(byte).into()
 }
 
 #[unsafe(no_mangle)]
@@ -67,56 +51,56 @@ pub extern "C" fn ykm_pair_index(a: u8, b: u8) -> usize
 pub extern "C" fn ykm_from_dot_bracket(text: &[u8], pairs: &mut [u16]) -> YkmAnswer
     ensures { Flat flat_answer (Parses text.now pairs.old pairs.new) result }
 {
-    flat::flat_answer(brackets::from_dot_bracket(text, pairs))
+    brackets::from_dot_bracket(text, pairs).into()
 }
 
 #[unsafe(no_mangle)]
 pub extern "C" fn ykm_to_dot_bracket(pairs: &[u16], text: &mut [u8]) -> YkmAnswer
     ensures { Flat flat_answer (Spells pairs.now text.old text.new) result }
 {
-    flat::flat_answer(brackets::to_dot_bracket(pairs, text))
+    brackets::to_dot_bracket(pairs, text).into()
 }
 
 #[unsafe(no_mangle)]
 pub extern "C" fn ykm_base_pairs(pairs: &[u16], out: &mut [u16]) -> YkmAnswer
     ensures { Flat flat_answer (Lists pairs.now out.old out.new) result }
 {
-    flat::flat_answer(queries::base_pairs(pairs, out))
+    queries::base_pairs(pairs, out).into()
 }
 
 #[unsafe(no_mangle)]
 pub extern "C" fn ykm_is_paired(pairs: &[u16], i: usize) -> YkmAnswer
     ensures { Flat flat_pairing (Pairs pairs.now i) result }
 {
-    flat::flat_pairing(queries::is_paired(pairs, i))
+    queries::is_paired(pairs, i).into()
 }
 
 #[unsafe(no_mangle)]
 pub extern "C" fn ykm_partner(pairs: &[u16], i: usize) -> YkmAnswer
     ensures { Flat flat_partner (Partners pairs.now i) result }
 {
-    flat::flat_partner(queries::partner(pairs, i))
+    queries::partner(pairs, i).into()
 }
 
 #[unsafe(no_mangle)]
 pub extern "C" fn ykm_num_pairs(pairs: &[u16]) -> YkmAnswer
     ensures { Flat flat_answer (Counts pairs.now) result }
 {
-    flat::flat_answer(queries::num_pairs(pairs))
+    queries::num_pairs(pairs).into()
 }
 
 #[unsafe(no_mangle)]
 pub extern "C" fn ykm_base_pair_distance(a: &[u16], b: &[u16]) -> YkmAnswer
     ensures { Flat flat_answer (Measures a.now b.now (base_pair_distance a.now b.now)) result }
 {
-    flat::flat_answer(distances::base_pair_distance(a, b))
+    distances::base_pair_distance(a, b).into()
 }
 
 #[unsafe(no_mangle)]
 pub extern "C" fn ykm_mountain_distance(a: &[u16], b: &[u16]) -> YkmAnswer
     ensures { Flat flat_answer (Measures a.now b.now (mountain_distance a.now b.now)) result }
 {
-    flat::flat_answer(distances::mountain_distance(a, b))
+    distances::mountain_distance(a, b).into()
 }
 
 #[unsafe(no_mangle)]
@@ -129,7 +113,7 @@ pub extern "C" fn ykm_nussinov(
 ) -> YkmCounted
     ensures { Flat flat_counted (Folds seq.now gap bases.old bases.new cells.old cells.new pairs.old pairs.new) result }
 {
-    flat::flat_counted(counting::nussinov(seq, gap, bases, cells, pairs))
+    counting::nussinov(seq, gap, bases, cells, pairs).into()
 }
 
 #[unsafe(no_mangle)]
@@ -145,7 +129,7 @@ pub extern "C" fn ykm_zuker_mfe(
         (EnergyFolds seq.now bases.old bases.new paired.old any.old arms.old paired.new any.new arms.new pairs.old pairs.new)
         result }
 {
-    flat::flat_least(energy::zuker_mfe(seq, bases, paired, any, arms, pairs))
+    energy::zuker_mfe(seq, bases, paired, any, arms, pairs).into()
 }
 
 #[unsafe(no_mangle)]
@@ -158,11 +142,7 @@ pub extern "C" fn ykm_replace(
 ) -> YkmCounted
     ensures { Flat flat_edited (Replaces (record_in held) bases.old bases.new cells.old cells.new position byte) result }
 {
-    let kept = Record {
-        length: held.length,
-        gap: held.gap,
-    };
-    flat::flat_edited(count_edits::replace(kept, bases, cells, position, byte))
+    count_edits::replace(held.into(), bases, cells, position, byte).into()
 }
 
 #[unsafe(no_mangle)]
@@ -174,22 +154,14 @@ pub extern "C" fn ykm_add(
 ) -> YkmCounted
     ensures { Flat flat_edited (Adds (record_in held) bases.old bases.new cells.old cells.new byte) result }
 {
-    let kept = Record {
-        length: held.length,
-        gap: held.gap,
-    };
-    flat::flat_edited(count_edits::add(kept, bases, cells, byte))
+    count_edits::add(held.into(), bases, cells, byte).into()
 }
 
 #[unsafe(no_mangle)]
 pub extern "C" fn ykm_erase(held: YkmRecord, bases: &[u8], cells: &[u16]) -> YkmCounted
     ensures { Flat flat_edited (Erases (record_in held) bases.now cells.now) result }
 {
-    let kept = Record {
-        length: held.length,
-        gap: held.gap,
-    };
-    flat::flat_edited(count_edits::erase(kept, bases, cells))
+    count_edits::erase(held.into(), bases, cells).into()
 }
 
 #[unsafe(no_mangle)]
@@ -199,11 +171,7 @@ pub extern "C" fn ykm_traceback(
     cells: &[u16],
     pairs: &mut [u16],
 ) -> YkmAnswer
-    ensures { Flat flat_traced (Traces (record_in held) bases.now cells.now pairs.old pairs.new) result }
+    ensures { Flat flat_answer (Traces (record_in held) bases.now cells.now pairs.old pairs.new) result }
 {
-    let kept = Record {
-        length: held.length,
-        gap: held.gap,
-    };
-    flat::flat_traced(count_edits::traceback(kept, bases, cells, pairs))
+    count_edits::traceback(held.into(), bases, cells, pairs).into()
 }

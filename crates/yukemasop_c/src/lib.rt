@@ -11,7 +11,7 @@ ghost use Rattle.counting.specs.Calls.{Folds};
 ghost use Rattle.count_edits.specs.Calls.{Replaces, Adds, Erases, Traces};
 ghost use Rattle.energy.specs.Calls.{Folds as EnergyFolds};
 ghost use Rattle.flat.specs.Flat.{flat_base, flat_answer, flat_pairing, flat_partner};
-ghost use Rattle.flat.specs.Flat.{flat_counted, flat_edited, flat_traced, flat_least, record_in, Flat};
+ghost use Rattle.flat.specs.Flat.{flat_counted, flat_edited, flat_least, record_in, Flat};
 
 use flat::{YkmAnswer, YkmBase, YkmCounted, YkmLeast, YkmRecord};
 
@@ -167,7 +167,7 @@ pub extern "C" fn ykm_traceback(
     cells: &[u16],
     pairs: &mut [u16],
 ) -> YkmAnswer
-    ensures { Flat flat_traced (Traces (record_in held) bases.now cells.now pairs.old pairs.new) result }
+    ensures { Flat flat_answer (Traces (record_in held) bases.now cells.now pairs.old pairs.new) result }
 {
     yukemasop::ykm_traceback(held, bases, cells, pairs)
 }
