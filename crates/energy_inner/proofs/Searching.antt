@@ -8,10 +8,11 @@ use native.Mathlib.Omega.{arith}
 use native.Mathlib.Decide.{dec_lt, ℕ_discrete}
 use lib.IntN.{ℤ, ◌+ℤ◌}
 use lib.Signed.{◌≤ℤ◌}
+use lib.ListN.{length}
 use Rattle.cells.specs.Tri.{tri, place}
 use Rattle.cells.specs.Rule.{Bases}
 use Rattle.cells.specs.Fill.{at, Fine}
-use Rattle.cells.proofs.Places.{tri_below}
+use Rattle.cells.proofs.Places.{tri_below, place_below}
 use Rattle.cells.proofs.Passes.{tri_back}
 use Rattle.ints.specs.Ints.{minℤ, mark, add_e, min_from, Small}
 use Rattle.ints.proofs.Ints.{ints, sum, either}
@@ -23,14 +24,21 @@ use Rattle.figures.proofs.Flanks.{side_in}
 use Rattle.closing.specs.Closing.{may_close, own}
 use Rattle.closing.proofs.Closing.{own_in, own_side}
 use Rattle.energy_rule.specs.Rule.{Table, inner_at, interior}
-use Rattle.energy_rule.specs.Memory.{nums}
+use Rattle.energy_rule.specs.Memory.{nums, table}
 use Rattle.energy_rule.proofs.Parts.{interior_le, interior_real}
 use Rattle.energy_rule.proofs.Ruling.{floor_is}
-use Rattle.energy_inner.specs.Search.{InRange, InPaired, Smalls, Charge, charged, low_end, side_to, side, near}
+use Rattle.energy_inner.specs.Search.{Before, InRange, InPaired, Smalls, Charge, charged, low_end, side_to, side, near}
 
 -- what is in range may stand in a sum
 pub range_small : (i j : ℕ) (z : ℤ) → j < longest + 2 → InRange i j z → Small z
 range_small i j z h p = omega (ints, longest_low, floor_is i j)
+
+-- a cell of a column before can be read, and may stand in a sum
+pub readable : (b : List ℕ) (v : List ℤ) (j x y : ℕ) → Before b v j → x ≤ y → y < j → (y < 65536) × (place x y < length v) × Small (table v x y)
+readable b v j x y r h l =
+    let s = r.short in
+    let m = r.room in
+    (omega (arith, longest_low), omega (arith, place_below x y j h l), range_small x y _ (omega arith) (r.fine x y h l).range)
 
 -- the greatest number below two
 pub min_glb : (z a b : ℤ) → z ≤ℤ a → z ≤ℤ b → z ≤ℤ minℤ a b

@@ -4,9 +4,9 @@
 
 ghost use Rattle.std.specs.Prelude.{◌≡◌, true, ℕ, suc, ◌+◌, ◌-◌, ◌≤◌, ◌<◌, length};
 ghost use Rattle.structure.specs.Table.{view};
-ghost use Rattle.cells.specs.Tri.{tri};
+ghost use Rattle.cells.specs.Tri.{tri, place};
 ghost use Rattle.cells.specs.Fill.{at, Fine};
-ghost use Rattle.ints.specs.Ints.{min_from};
+ghost use Rattle.ints.specs.Ints.{min_from, Small};
 ghost use Rattle.figures.specs.Figures.{smallest_hairpin, longest_side, longest};
 ghost use Rattle.closing.specs.Closing.{may_close};
 ghost use Rattle.energy_rule.specs.Rule.{inner_at, interior};
@@ -58,17 +58,21 @@ fn near(paired: &[i32], sides: &SideCharges, i: usize, j: usize) -> i32
     best
 }
 
-// The one inner pair x and y, by the loop's own figure.
-fn one(bases: &[u8], paired: &[i32], i: usize, j: usize, x: usize, y: usize) -> i32
-    requires i_lt_x { (i < x) × (x < y) × (y < j) × (x - suc i ≤ longest_side) × (j - suc y ≤ longest_side) }
-    requires before { Before bases.now paired.now j × (may_close (view bases.now) i j ≡ true) }
+// What i with j around the one inner pair x with y costs: none where x and y may not close a loop.
+pub fn inner_at(bases: &[u8], paired: &[i32], i: usize, j: usize, x: usize, y: usize) -> i32
+    requires inside { (i < x) × (x ≤ y) × (y < j) × (x - suc i ≤ longest_side) × (j - suc y ≤ longest_side) }
+    requires closes { (j < length bases.now) × (may_close (view bases.now) i j ≡ true) }
+    requires readable { (y < 65536) × (place x y < length paired.now) × Small (table paired.now x y) }
     ensures { result ≡ inner_at (view bases.now) (table paired.now) i j x y }
 {
-    if !closing::may_close(bases, x, y) {
-        return MARK;
+    if closing::may_close(bases, x, y) {
+        ints::plus(
+            ints::cell(paired, cells::place(x, y)),
+            closing::own(bases, i, j, x, y),
+        )
+    } else {
+        MARK
     }
-    let at = cells::place(x, y);
-    ints::plus(ints::cell(paired, at), closing::own(bases, i, j, x, y))
 }
 
 // The least with one inner pair.
@@ -77,9 +81,9 @@ pub fn interior(bases: &[u8], sides: &SideCharges, paired: &[i32], i: usize, j: 
     requires { Before bases.now paired.now j × (may_close (view bases.now) i j ≡ true) }
     ensures { result ≡ interior (view bases.now) (table paired.now) i j }
 {
-    let stack = one(bases, paired, i, j, i + 1, j - 1);
-    let left = one(bases, paired, i, j, i + 2, j - 1);
-    let right = one(bases, paired, i, j, i + 1, j - 2);
+    let stack = inner_at(bases, paired, i, j, i + 1, j - 1);
+    let left = inner_at(bases, paired, i, j, i + 2, j - 1);
+    let right = inner_at(bases, paired, i, j, i + 1, j - 2);
     let other = near(paired, sides, i, j);
     ints::least(ints::least(other, stack), ints::least(left, right))
 }
