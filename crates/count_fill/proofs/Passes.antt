@@ -8,12 +8,12 @@ use Rattle.cells.specs.Tri.{tri, place}
 use Rattle.cells.specs.Rule.{Bases, Cells, span}
 use Rattle.cells.specs.Fill.{at, Fine, FineFrom, Rows}
 use Rattle.cells.specs.Pass.{gather, parts, Settled}
-use Rattle.cells.proofs.Places.{less_or, three, tri_below}
+use Rattle.cells.proofs.Places.{less_or, three, tri_below, place_below}
 use Rattle.cells.proofs.Fills.{Put}
-use Rattle.cells.proofs.Spans.{span_same, span_under}
+use Rattle.cells.proofs.Spans.{span_same, span_under, span_some, span_none}
 use Rattle.cells.proofs.Passes.{gather_front, gather_none, settled_value}
 use Rattle.count_rule.specs.Rule.{best, paired, split, nussinov, Half}
-use Rattle.count_rule.proofs.Laws.{best_down, paired_same, paired_under, nussinov_one, nussinov_more}
+use Rattle.count_rule.proofs.Laws.{best_down, paired_none, paired_some, paired_same, paired_under, nussinov_one, nussinov_more}
 use Rattle.count_fill.specs.Passes.{AnyHalf, begun, Started, Fit, both}
 
 -- the largest of v and a range, joined from the last to the first
@@ -21,6 +21,9 @@ gather_best : (v : ℕ) (f : ℕ → ℕ) (lo m : ℕ) → gather max v f lo m �
 unfolding gather best
 gather_best v f lo zero = omega arith
 gather_best v f lo (suc m) = omega (arith, gather_best v f (lo + 1) m, best_down f lo m)
+
+-- what a pair is worth
+pub ruleset pairing = (paired_none, paired_some, span_some, span_none, place_below)
 
 -- ---- what a cell holds before any split
 

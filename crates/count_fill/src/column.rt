@@ -9,6 +9,7 @@ ghost use Rattle.count_fill.specs.Passes.{AnyHalf, Before, begun, Started, Fit, 
 ghost use Rattle.count_fill.specs.Believable.{fullness, column_half};
 
 // i with j, where they may pair.
+#[tactic(auto, using(crate::proofs::Passes::pairing), unfolding(count_rule::specs::Rule::may_pair))]
 fn with_pair(bases: &[u8], cells: &[u16], i: usize, j: usize, gap: usize) -> u16
     requires { (i < j) × Before bases.now cells.now j }
     ensures { result ≡ paired gap (view bases.now) (at (view cells.now)) i j }
@@ -24,6 +25,7 @@ fn with_pair(bases: &[u8], cells: &[u16], i: usize, j: usize, gap: usize) -> u16
 }
 
 // What (i, j) begins with, before any split: j unpaired, or i with j.
+#[tactic(auto, using(crate::proofs::Passes::begun_one, cells::proofs::Places::place_below))]
 fn opening(bases: &[u8], cells: &[u16], i: usize, j: usize, gap: usize) -> u16
     requires { (i ≤ j) × Before bases.now cells.now j }
     ensures { result ≡ begun gap (view bases.now) (at (view cells.now)) i j }
