@@ -24,34 +24,35 @@ pub struct Triangle<'a> {
 
 impl Triangle<'_> {
     // The cell (i, j).
-    fn cell(self, i: usize, j: usize) -> i32
-        requires { (i ≤ j) × (j < self.n) }
-        ensures { (result ≡ table self.entry.cells.now i j) × Small result }
+    #[tactic(auto, using(cells::proofs::Passes::cell_at, crate::proofs::Readiness::ready_cell))]
+    fn cell(&self, i: usize, j: usize) -> i32
+        requires { (i ≤ j) × (j < self.now.n) }
+        ensures { (result ≡ table self.now.cells.now i j) × Small result }
     {
-        ints::cell(self.cells, cells::place(i, j))
+        cells::cell(self.cells, i, j)
     }
 
     // The cell (i, j) has a structure.
-    pub fn real(self, i: usize, j: usize) -> bool
-        requires { (i ≤ j) × (j < self.n) }
-        ensures { result ≡ lt_z (table self.entry.cells.now i j) mark }
+    pub fn real(&self, i: usize, j: usize) -> bool
+        requires { (i ≤ j) × (j < self.now.n) }
+        ensures { result ≡ lt_z (table self.now.cells.now i j) mark }
     {
         self.cell(i, j) < MARK
     }
 
     // The cell (i, j) as the cell (k, l) of a table.
     #[tactic(auto, using(crate::proofs::Equal::same_bits))]
-    pub fn alike(self, i: usize, j: usize, other: Triangle, k: usize, l: usize) -> bool
-        requires { (i ≤ j) × (j < self.n) × (k ≤ l) × (l < other.n) }
-        ensures { result ≡ same (table self.entry.cells.now i j) (table other.entry.cells.now k l) }
+    pub fn alike(&self, i: usize, j: usize, other: &Triangle, k: usize, l: usize) -> bool
+        requires { (i ≤ j) × (j < self.now.n) × (k ≤ l) × (l < other.now.n) }
+        ensures { result ≡ same (table self.now.cells.now i j) (table other.now.cells.now k l) }
     {
         self.cell(i, j) == other.cell(k, l)
     }
 
     // The split of (i, j) after k.
-    pub fn split(self, i: usize, j: usize, k: usize) -> bool
-        requires { (i ≤ k) × (k < j) × (j < self.n) }
-        ensures { result ≡ split_at (table self.entry.cells.now) i j k }
+    pub fn split(&self, i: usize, j: usize, k: usize) -> bool
+        requires { (i ≤ k) × (k < j) × (j < self.now.n) }
+        ensures { result ≡ split_at (table self.now.cells.now) i j k }
     {
         ints::plus(self.cell(i, k), self.cell(k + 1, j)) == self.cell(i, j)
     }
@@ -69,43 +70,44 @@ pub struct Tables<'a> {
 
 impl Tables<'_> {
     // No structure costs nothing.
-    pub fn none(self, i: usize, j: usize) -> bool
-        requires { (i ≤ j) × (j < self.any.n) }
-        ensures { result ≡ same (table self.entry.any.cells.now i j) (pos 0) }
+    pub fn none(&self, i: usize, j: usize) -> bool
+        requires { (i ≤ j) × (j < self.now.any.n) }
+        ensures { result ≡ same (table self.now.any.cells.now i j) (pos 0) }
     {
         self.any.cell(i, j) == 0
     }
 
     // i with j as one arm.
-    pub fn arm(self, i: usize, j: usize) -> bool
-        requires { (i ≤ j) × (j < self.paired.n) }
-        ensures { result ≡ same (add_e (table self.entry.paired.cells.now i j) arm_charge) (table self.entry.arms.cells.now i j) }
+    pub fn arm(&self, i: usize, j: usize) -> bool
+        requires { (i ≤ j) × (j < self.now.paired.n) }
+        ensures { result ≡ same (add_e (table self.now.paired.cells.now i j) arm_charge) (table self.now.arms.cells.now i j) }
     {
         ints::plus(self.paired.cell(i, j), ARM as i32) == self.arms.cell(i, j)
     }
 
     // i with j around arms.
-    pub fn many(self, i: usize, j: usize) -> bool
-        requires { (i + 1 < j) × (j < self.paired.n) }
-        ensures { result ≡ same (add_e (table self.entry.arms.cells.now (i + 1) (j - 1)) closing_charge) (table self.entry.paired.cells.now i j) }
+    pub fn many(&self, i: usize, j: usize) -> bool
+        requires { (i + 1 < j) × (j < self.now.paired.n) }
+        ensures { result ≡ same (add_e (table self.now.arms.cells.now (i + 1) (j - 1)) closing_charge) (table self.now.paired.cells.now i j) }
     {
         ints::plus(self.arms.cell(i + 1, j - 1), CLOSING as i32) == self.paired.cell(i, j)
     }
 
     // i with j around a hairpin.
-    #[tactic(auto, using(closing::proofs::Closing::close_far))]
-    pub fn hairpin(self, i: usize, j: usize) -> bool
-        requires { (j < self.paired.n) × (may_close (view self.bases.now) i j ≡ true) }
-        ensures { result ≡ same (hairpin_at (view self.entry.bases.now) i j) (table self.entry.paired.cells.now i j) }
+    #[tactic(auto, using(closing::proofs::Closing::close_far, crate::proofs::Equal::same_bits))]
+    pub fn hairpin(&self, i: usize, j: usize) -> bool
+        requires { (j < self.now.paired.n) × (may_close (view self.now.bases.now) i j ≡ true) }
+        ensures { result ≡ same (hairpin_at (view self.now.bases.now) i j) (table self.now.paired.cells.now i j) }
     {
         closing::hairpin_at(self.bases, i, j) == self.paired.cell(i, j)
     }
 
     // i with j around the one inner pair x with y.
-    pub fn inner(self, i: usize, j: usize, x: usize, y: usize) -> bool
+    #[tactic(auto, using(crate::proofs::Equal::same_bits), unfolding(crate::specs::Reach::reaches))]
+    pub fn inner(&self, i: usize, j: usize, x: usize, y: usize) -> bool
         requires inside { (i < x) × (x ≤ y) × (y < j) × (x - suc i ≤ longest_side) × (j - suc y ≤ longest_side) }
-        requires closes { (j < self.paired.n) × (may_close (view self.bases.now) i j ≡ true) }
-        ensures { result ≡ reaches (view self.entry.bases.now) (table self.entry.paired.cells.now) i j x y }
+        requires closes { (j < self.now.paired.n) × (may_close (view self.now.bases.now) i j ≡ true) }
+        ensures { result ≡ reaches (view self.now.bases.now) (table self.now.paired.cells.now) i j x y }
     {
         energy_inner::inner_at(self.bases, self.paired.cells, i, j, x, y) == self.paired.cell(i, j)
     }
