@@ -57,6 +57,7 @@ fn near_a_half(term: usize) -> bool {
 }
 
 // What a hairpin costs, its mismatch left out.
+#[tactic(auto, using(figures::proofs::Charges::fold_reach))]
 fn hairpin(size: usize) -> usize
     requires { (30 ≤ size) × (size + 2 ≤ fold_limit) }
     ensures { result ≤ 1000000000 }
@@ -71,12 +72,7 @@ fn tell(rt: &impl Print, size: usize, term: usize) -> io::Result<()> {
 
 // The sizes whose terms the rules name.
 fn named(size: usize) -> bool {
-    match size {
-        31 => true,
-        58 => true,
-        60 => true,
-        _ => false,
-    }
+    matches!(size, 31 | 58 | 60)
 }
 
 // Whether the table adds, for a size whose logarithm is so many units, what is made here; what it finds is written out.
@@ -103,21 +99,13 @@ fn agrees(rt: &impl Print, size: usize, ln: usize) -> io::Result<bool>
     Ok(true)
 }
 
-fn counted(yes: bool) -> usize
-    ensures { result ≤ 1 }
-{
-    if yes { 1 } else { 0 }
-}
-
 // How many terms agree, of all sizes that a fold may have.
 fn agreeing(rt: &impl Print) -> io::Result<usize> {
-    let mut ln: usize = 0;
-    let mut count: usize = 0;
-    let mut size = TABLED + 1;
-    while size + 2 <= FOLD_LIMIT {
+    let mut ln = 0;
+    let mut count = 0;
+    for size in TABLED + 1..=FOLD_LIMIT - 2 {
         ln += step(size - 1);
-        count += counted(agrees(rt, size, ln)?);
-        size += 1;
+        count += usize::from(agrees(rt, size, ln)?);
     }
     Ok(count)
 }
