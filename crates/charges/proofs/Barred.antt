@@ -1,17 +1,14 @@
 -- Pairs that may not close a loop: where none is found, a sound table is a candidate.
-use mathlib.Core.Path.{◌≡◌, refl, sym, ◌∙◌}
-use mathlib.Core.Logic.{◌≢◌, by_cases}
-use mathlib.Core.Bool.{true, false, true≢false}
+use mathlib.Core.Path.{◌≡◌, refl}
+use mathlib.Core.Logic.{◌≢◌}
+use mathlib.Core.Bool.{true, false}
 use mathlib.Core.List.{List}
 use Prim.Native.Nat.{ℕ, zero, suc, ◌+◌, ◌<◌, ◌≤◌}
 use native.Mathlib.Omega.{arith}
-use native.Mathlib.Decide.{ℕ_discrete}
 use lib.ListN.{length}
 use Rattle.structure.specs.Table.{unpaired, view, Sound}
-use Rattle.ints.proofs.Ints.{either}
 use Rattle.closing.specs.Closing.{may_close}
 use Rattle.charges.specs.Loops.{bars, barred, first_barred, Candidate}
-use Rattle.charges.proofs.Walk.{opens_up}
 
 module _ (b p : ℕ → ℕ) where
   pub barred_here : (n k : ℕ) → 0 < n → bars b p k ≡ true → barred b p n k ≡ k
@@ -32,23 +29,17 @@ module _ (b p : ℕ → ℕ) where
   pub barred_most : (n k : ℕ) → barred b p n k ≤ k + n
   unfolding barred
   barred_most zero k = omega arith
-  barred_most (suc n) k = either (bars b p k) (λ e. rw e (omega arith)) (λ e. rw e (omega (arith, barred_most n (suc k))))
+  barred_most (suc n) k = grind (arith, barred_most n (suc k))
 
   -- none of the positions before the first does
   pub barred_before : (n k i : ℕ) → k ≤ i → i < barred b p n k → i < k + n → bars b p i ≡ false
   unfolding barred
   barred_before zero k i l h m = absurd (omega arith)
-  barred_before (suc n) k i l h m =
-      either (bars b p k)
-      (λ e. absurd (omega (arith, barred_here (suc n) k (omega arith) e)))
-      (λ e. by_cases (ℕ_discrete i k)
-      (λ q. rw q e)
-      (λ q. barred_before n (suc k) i (omega arith) (omega (arith, barred_next (suc n) n k refl e)) (omega arith)))
+  barred_before (suc n) k i l h m = grind (arith, barred_before n (suc k) i)
 
   bars_not : (k : ℕ) → k < p k → p k ≢ unpaired → bars b p k ≡ false → may_close b k (p k) ≡ true
   unfolding bars
-  bars_not k h n e =
-      either (may_close b k (p k)) (λ q. q) (λ q. absurd (true≢false (sym (rw (opens_up k (p k) h n, q)) ∙ e)))
+  bars_not k h n e = grind arith
 
 pub candidate : (b t : List ℕ) → Sound t → first_barred b t ≡ length t → Candidate (view b) (view t) 0 (length t)
 candidate b t s e =

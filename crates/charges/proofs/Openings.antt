@@ -1,16 +1,16 @@
 -- What is known where a pair opens in a chargeable table: its inside folds, its inner pairs are in reach, its loop has a figure, and sums of charges stay small.
 use mathlib.Core.Path.{◌≡◌, refl, sym, ap, ◌∙◌}
 use mathlib.Core.Logic.{◌≢◌, ◌⊎◌, inl, inr, ⊎_elim, by_cases}
-use mathlib.Core.Bool.{Bool, true, false, true≢false, cond}
+use mathlib.Core.Bool.{Bool, true, false, cond}
 use mathlib.Core.List.{List}
 use Prim.Native.Nat.{ℕ, zero, suc, ◌+◌, ◌-◌, ◌*◌, ◌<◌, ◌≤◌}
 use native.Mathlib.Omega.{arith}
 use native.Mathlib.Numerals.{add-one}
-use native.Mathlib.Decide.{dec_lt, ℕ_discrete}
+use native.Mathlib.Decide.{ℕ_discrete}
 use lib.Dec.{eqb}
 use lib.IntN.{pos, negsuc, ◌+ℤ◌}
 use lib.ListN.{length}
-use lib.Signed.{le_z, ◌≤ℤ◌}
+use lib.Signed.{◌≤ℤ◌}
 use borrow.Author.Tests.{eq-eqb, ne_eqb}
 use Rattle.bases.specs.Bases.{pair_index}
 use Rattle.bases.proofs.Laws.{index_below}
@@ -18,24 +18,19 @@ use Rattle.structure.specs.Table.{unpaired, view, opens, Fold}
 use Rattle.structure.proofs.Folds as folds
 use Rattle.structure.proofs.Counts.{opens_none, opens_high}
 use Rattle.ints.specs.Ints.{In, Small}
-use Rattle.ints.proofs.Ints.{ints, sum, either}
-use Rattle.figures.specs.Figures.{longest_side}
-use Rattle.figures.specs.Charge.{many_of, Figured, figure_most, charge_most}
+use Rattle.ints.proofs.Ints.{ints, either}
+use Rattle.figures.specs.Charge.{Figured, figure_most, charge_most}
 use Rattle.figures.specs.declared.Loop.{Loop}
 use Rattle.figures.proofs.Charges.{sides_reach, longest_low, term_low, charge_in}
 use Rattle.figures.proofs.Flanks.{between_figured}
-use Rattle.closing.specs.Closing.{may_close, own, purines}
+use Rattle.closing.specs.Closing.{may_close, purines}
 use Rattle.closing.proofs.Closing.{purines_le, close_pair, close_far}
 use Rattle.charges.specs.Loops.{opening, arms, arms_in, first, first_in, single, kind_by, kind, charge_by, charge_at, total, Chargeable}
-use Rattle.charges.proofs.Charged.{single_left, single_right, single_own, single_many}
-use Rattle.charges.proofs.Walk.{arms_free, arms_pair, shut_none, shut_low, first_le, one_arm}
+use Rattle.charges.proofs.Walk.{arms_free, arms_pair, shut_none, first_le, one_arm}
 
 -- ---- openings
 pub opening_true : (k v : ℕ) → opening k v ≡ true → (k < v) × (v ≢ unpaired)
-opening_true k v e =
-    by_cases (ℕ_discrete v unpaired)
-    (λ q. absurd (true≢false (sym e ∙ shut_none k v q)))
-    (λ n. by_cases (dec_lt k v) (λ h. (h, n)) (λ h. absurd (true≢false (sym e ∙ shut_low k v (omega arith)))))
+opening_true k v e = grind arith
 
 -- what the test that a position opens a pair tells
 pub opens_is : (r : Bool) (k v : ℕ) → cond r 1 0 ≡ opens k v → r ≡ opening k v
@@ -44,21 +39,7 @@ opens_is false k v e = sym (ne_eqb (opens k v) 1 (λ q. omega arith))
 
 -- the inside of any pair of a span that folds
 pub inside_folds : (p : ℕ → ℕ) {lo hi : ℕ} → Fold p lo hi → (i : ℕ) → lo ≤ i → i < p i → p i < hi → Fold p (suc i) (p i)
-inside_folds p {lo} {hi} f i l o h =
-    let w = f.fits in
-    let mi = f.mate i l (omega arith) (omega arith) in
-    record {
-      fits = omega arith;
-      mate = λ k u r n.
-          let m = f.mate k (omega arith) (omega arith) n in
-          let e = m.3 in
-          let ne : p k ≢ i = λ q. omega (arith, ap p q) in
-          let ne' : p k ≢ p i = λ q. omega (arith, ap p q) in
-          let right : ¬ (p i < p k) = λ s. f.plain i k l (omega arith) r s m.1 in
-          let left : ¬ (p k < i) = λ s. f.plain (p k) i m.0 s (omega arith) (omega arith) h in
-          (omega arith, omega arith, m.2, m.3);
-      plain = λ a b u x y z t. f.plain a b (omega arith) x y z (omega arith);
-    }
+inside_folds p {lo} {hi} f i l o h = grind arith
 
 -- ---- the walk along a span: an unpaired position is passed, a pair jumped over
 pub record Step (p : ℕ → ℕ) (x hi y : ℕ) : Type 0 where
@@ -85,34 +66,21 @@ step p {x} {hi} f h =
 first_found : (p : ℕ → ℕ) (n k : ℕ) → (first p n k ≡ k + n) ⊎ (opening (first p n k) (p (first p n k)) ≡ true)
 unfolding first
 first_found p zero k = inl (omega arith)
-first_found p (suc n) k =
-    either (opening k (p k))
-    (λ e. rw e (inr e))
-    (λ e. rw e (⊎_elim (λ q. inl (omega arith)) (λ q. inr q) (first_found p n (suc k))))
+first_found p (suc n) k = either (opening k (p k)) (λ e. rw e (inr e)) (λ e. rw e (grind (arith, first_found p n (suc k))))
 
 -- no more arms than positions
 arms_below : (p : ℕ → ℕ) (n s k : ℕ) → arms p n s k ≤ n
 unfolding arms
 arms_below p zero s k = omega arith
-arms_below p (suc n) zero k =
-    either (opening k (p k))
-    (λ e. rw e (omega (arith, arms_below p n (p k - k) (suc k))))
-    (λ e. rw e (omega (arith, arms_below p n zero (suc k))))
+arms_below p (suc n) zero k = grind (arith, arms_below p n (p k - k) (suc k), arms_below p n zero (suc k))
 arms_below p (suc n) (suc s) k = omega (arith, arms_below p n s (suc k))
 
 pub arms_le : (p : ℕ → ℕ) (lo hi : ℕ) → arms_in p lo hi ≤ hi - lo
 arms_le p lo hi = arms_below p (hi - lo) 0 lo
 
 single_figured : (b : ℕ → ℕ) (i j x y o n p : ℕ) → o < 6 → n < 6 → Figured (single b i j x y) o n p
-single_figured b i j x y o n p d e =
-    let reach = sides_reach in
-    by_cases (dec_lt longest_side (x - suc i))
-    (λ h. rw (single_left b i j x y h) (omega arith, omega arith))
-    (λ h. by_cases (dec_lt longest_side (j - suc y))
-    (λ g. rw (single_right b i j x y g) (omega arith, omega arith))
-    (λ g. either (le_z (own b i j x y) (many_of 1))
-    (λ q. rw (single_own b i j x y (omega arith) (omega arith) (own b i j x y) (many_of 1) refl refl q) (between_figured (x - suc i) (j - suc y) o n p (omega arith) (omega arith) d e))
-    (λ q. rw (single_many b i j x y (omega arith) (omega arith) (own b i j x y) (many_of 1) refl refl q) (omega arith, omega arith))))
+unfolding single
+single_figured b i j x y o n p d e = grind (arith, sides_reach, between_figured)
 
 -- ---- an opening place
 module _ (b t : List ℕ) (r : Chargeable b t) (i : ℕ) (h : i < length t) (o : opening i (view t i) ≡ true) where
@@ -126,18 +94,7 @@ module _ (b t : List ℕ) (r : Chargeable b t) (i : ℕ) (h : i < length t) (o :
     pub may : may_close (view b) i (view t i) ≡ true
 
   pub closes : Closes
-  closes =
-      let u = opening_true i (view t i) o in
-      let f = r.candidate.fold in
-      let m = f.mate i (omega arith) h u.1 in
-      record {
-        up = u.0;
-        within = m.1;
-        real = u.1;
-        back = m.3;
-        inner = inside_folds (view t) f i (omega arith) u.0 m.1;
-        may = r.candidate.each i (omega arith) h u.0 u.1;
-      }
+  closes = grind arith
 
   -- where it has one inner pair, that pair
   pub record Inner (x : ℕ) : Type 0 where
@@ -237,35 +194,26 @@ module _ (b t : List ℕ) (r : Chargeable b t) (i : ℕ) (h : i < length t) (o :
       )
 
 -- ---- sums
-pub total_none : (b p : ℕ → ℕ) → total b p 0 ≡ pos 0
-unfolding total
-total_none b p = refl
-
 pub total_more : (b p : ℕ → ℕ) (k : ℕ) → total b p (k + 1) ≡ total b p k +ℤ cond (opening k (p k)) (charge_at b p k) (pos 0)
 unfolding total
 total_more b p k = rw (add-one k)
 
 -- what a position adds is within 500,000, and so many together are small
 module _ (b t : List ℕ) (r : Chargeable b t) where
-  pub share_near : (k : ℕ) → k < length t → In (negsuc 499999) (pos 500000) (cond (opening k (view t k)) (charge_at (view b) (view t) k) (pos 0))
-  share_near k h = either (opening k (view t k)) (λ e. rw e (charge_near b t r k h e)) (λ e. rw e (omega ints))
+  share_near : (k : ℕ) → k < length t → In (negsuc 499999) (pos 500000) (cond (opening k (view t k)) (charge_at (view b) (view t) k) (pos 0))
+  share_near k h = grind (ints, charge_near b t r k h)
 
   total_near : (k : ℕ) → k ≤ length t
       → (total (view b) (view t) k ≤ℤ pos (500000 * k)) × (pos 0 ≤ℤ (total (view b) (view t) k +ℤ pos (500000 * k)))
   unfolding total
   total_near zero h = (omega ints, omega ints)
   total_near (suc k) h =
-      let z = total (view b) (view t) k in
-      let s = cond (opening k (view t k)) (charge_at (view b) (view t) k) (pos 0) in
       let q = total_near k (omega arith) in
       let w = share_near k h in
-      (omega (ints, sum z s), omega (ints, sum z s, sum z (pos (500000 * k)), sum (z +ℤ s) (pos (500000 * suc k))))
+      (omega ints, omega ints)
 
   pub total_small : (k : ℕ) → k ≤ length t → Small (total (view b) (view t) k)
   total_small k h =
       let s = r.short in
       let q = total_near k h in
-      omega (ints, longest_low, sum (total (view b) (view t) k) (pos (500000 * k)))
-
-  pub share_small : (k : ℕ) → k < length t → Small (cond (opening k (view t k)) (charge_at (view b) (view t) k) (pos 0))
-  share_small k h = let w = share_near k h in omega ints
+      omega (ints, longest_low)

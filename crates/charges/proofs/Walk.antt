@@ -1,30 +1,24 @@
 -- Arms, the first of them, and the sum of charges along a span that folds: what each step of a walk over it changes.
 use mathlib.Core.Path.{◌≡◌, refl, sym, ap, ap₂, ◌∙◌}
 use mathlib.Core.Logic.{◌≢◌, by_cases}
-use mathlib.Core.Bool.{Bool, true, false, cond}
+use mathlib.Core.Bool.{true, false}
 use Prim.Native.Nat.{ℕ, zero, suc, ◌+◌, ◌-◌, ◌<◌, ◌≤◌}
 use native.Mathlib.Omega.{arith}
 use native.Mathlib.Decide.{ℕ_discrete}
-use lib.IntN.{pos, ◌+ℤ◌}
-use borrow.Author.Tests.{lt-ltb, le-ltb, eq-eqb, ne_eqb}
+use lib.IntN.{◌+ℤ◌}
 use Rattle.structure.specs.Table.{unpaired, Fold}
 use Rattle.structure.proofs.Folds as folds
-use Rattle.ints.proofs.Ints.{ints, sum}
 use Rattle.charges.specs.Loops.{opening, arms, arms_in, first, first_in, charge_at, total}
 
 -- ---- openings
 pub shut_none : (k v : ℕ) → v ≡ unpaired → opening k v ≡ false
-shut_none k v e = rw (eq-eqb v unpaired e)
+shut_none k v e = grind arith
 
 pub shut_low : (k v : ℕ) → v ≤ k → opening k v ≡ false
-shut_low k v h = by_cases (ℕ_discrete v unpaired) (λ e. shut_none k v e) (λ n. rw (ne_eqb v unpaired n, le-ltb k v h))
+shut_low k v h = grind arith
 
 pub opens_up : (k v : ℕ) → k < v → v ≢ unpaired → opening k v ≡ true
-opens_up k v h n = rw (ne_eqb v unpaired n, lt-ltb k v h)
-
-cond_in : (t : Bool) (x y lo hi : ℕ) → (lo ≤ x) × (x ≤ hi) → (lo ≤ y) × (y ≤ hi) → (lo ≤ cond t x y) × (cond t x y ≤ hi)
-cond_in true x y lo hi f g = f
-cond_in false x y lo hi f g = g
+opens_up k v h n = grind arith
 
 module _ (p : ℕ → ℕ) where
   -- ---- arms
@@ -43,13 +37,11 @@ module _ (p : ℕ → ℕ) where
 
   pub arms_none : (lo hi : ℕ) → hi ≤ lo → arms_in p lo hi ≡ 0
   unfolding arms
-  arms_none lo hi h = let e : hi - lo ≡ 0 = omega arith in ap (λ x. arms p x 0 lo) e
+  arms_none lo hi h = grind arith
 
   pub arms_free : (lo hi : ℕ) → lo < hi → opening lo (p lo) ≡ false → arms_in p lo hi ≡ arms_in p (suc lo) hi
   unfolding arms
-  arms_free lo hi h o =
-      let e : hi - lo ≡ suc (hi - suc lo) = omega arith in
-      ap (λ x. arms p x 0 lo) e ∙ rw o
+  arms_free lo hi h o = grind arith
 
   pub arms_pair : (lo hi : ℕ) → lo < p lo → p lo < hi → p lo ≢ unpaired → arms_in p lo hi ≡ suc (arms_in p (suc (p lo)) hi)
   unfolding arms
@@ -63,30 +55,30 @@ module _ (p : ℕ → ℕ) where
   -- ---- the first opening
   pub first_here : (lo hi : ℕ) → lo < hi → opening lo (p lo) ≡ true → first_in p lo hi ≡ lo
   unfolding first
-  first_here lo hi h o = let e : hi - lo ≡ suc (hi - suc lo) = omega arith in ap (λ x. first p x lo) e ∙ rw o
+  first_here lo hi h o = grind arith
 
   pub first_next : (lo hi : ℕ) → lo < hi → opening lo (p lo) ≡ false → first_in p lo hi ≡ first_in p (suc lo) hi
   unfolding first
-  first_next lo hi h o = let e : hi - lo ≡ suc (hi - suc lo) = omega arith in ap (λ x. first p x lo) e ∙ rw o
+  first_next lo hi h o = grind arith
 
   pub first_none : (lo hi : ℕ) → hi ≤ lo → first_in p lo hi ≡ lo
   unfolding first
-  first_none lo hi h = let e : hi - lo ≡ 0 = omega arith in ap (λ x. first p x lo) e
+  first_none lo hi h = grind arith
 
   pub first_le : (n k : ℕ) → (k ≤ first p n k) × (first p n k ≤ k + n)
   unfolding first
   first_le zero k = (omega arith, omega arith)
-  first_le (suc n) k = let r = first_le n (suc k) in cond_in (opening k (p k)) k (first p n (suc k)) k (k + suc n) (omega arith, omega arith) (omega arith, omega arith)
+  first_le (suc n) k = grind (arith, first_le n (suc k))
 
   -- ---- sums
   module _ (b : ℕ → ℕ) where
     pub total_free : (k : ℕ) → opening k (p k) ≡ false → total b p (suc k) ≡ total b p k
     unfolding total
-    total_free k o = rw o (omega (ints, sum (total b p k) (pos 0)))
+    total_free k o = grind arith
 
     pub total_open : (k : ℕ) → k < p k → p k ≢ unpaired → total b p (suc k) ≡ total b p k +ℤ charge_at b p k
     unfolding total
-    total_open k h n = rw (opens_up k (p k) h n)
+    total_open k h n = grind arith
 
     -- a pair and what lies behind it
     pub closing : {lo hi : ℕ} → Fold p lo hi → lo < hi → p lo ≢ unpaired → total b p (suc (p lo)) ≡ total b p (p lo)

@@ -16,6 +16,7 @@ fn past(k: usize, v: u16) -> usize
 }
 
 // How many pairs lie from lo up to hi and in no other pair there.
+#[tactic(auto, using(crate::proofs::Openings::opens_is, crate::proofs::Openings::step, crate::proofs::Walk::arms_none))]
 pub fn arms_in(pairs: &[u16], lo: usize, hi: usize) -> usize
     requires { (lo ≤ hi) × (hi ≤ length pairs.now) × Fold (view pairs.now) lo hi }
     ensures { result ≡ arms_in (view pairs.now) lo hi }
@@ -33,9 +34,11 @@ pub fn arms_in(pairs: &[u16], lo: usize, hi: usize) -> usize
 
 // The first place from lo up to hi that opens a pair; hi where none does, as `first_in` of specs/Loops.antt has it, by which a
 // loop's charge is defined.
+#[tactic(auto, using(crate::proofs::Openings::opens_is, crate::proofs::Walk::first_here, crate::proofs::Walk::first_none))]
 pub fn first_in(pairs: &[u16], lo: usize, hi: usize) -> usize
     requires { (lo ≤ hi) × (hi ≤ length pairs.now) }
-    ensures { result ≡ first_in (view pairs.now) lo hi }
+    ensures value { result ≡ first_in (view pairs.now) lo hi }
+    ensures within { (lo ≤ result) × (result ≤ hi) }
 {
     for k in lo..hi {
         if structure::opens(k, pairs[k]) {

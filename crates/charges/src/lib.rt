@@ -3,7 +3,7 @@
 // These are inner parts: who calls them has tested that the structure is sound and that each of its pairs may close a loop.
 #![tactic(auto)]
 
-ghost use Rattle.std.specs.Prelude.{◌≡◌, true, cond, ◌<◌, ◌≤◌, pos, length};
+ghost use Rattle.std.specs.Prelude.{◌≡◌, true, ◌<◌, ◌≤◌, length};
 ghost use Rattle.bases.specs.Bases.{can_pair};
 ghost use Rattle.structure.specs.Table.{view, Sound};
 ghost use Rattle.charges.specs.Loops.{bars, first_barred, opening, single, kind, charge_at, energy_of, Chargeable};
@@ -23,6 +23,7 @@ fn bars(bases: &[u8], pairs: &[u16], i: usize) -> bool
 
 // The first position that opens a pair that may not close a loop; the length where none does, and the structure is a candidate:
 // its callers are programs, and a function that answers every structure stays one.
+#[tactic(auto, using(crate::proofs::Barred::barred_here, crate::proofs::Barred::barred_next, crate::proofs::Barred::barred_none))]
 pub fn first_barred(bases: &[u8], pairs: &[u16]) -> usize
     requires { Sound pairs.now × (length pairs.now ≤ length bases.now) }
     ensures { result ≡ first_barred bases.now pairs.now }
@@ -36,7 +37,7 @@ pub fn first_barred(bases: &[u8], pairs: &[u16]) -> usize
 }
 
 // The kind of the loop of i and j with the one inner pair x and y: many-armed only where that is cheaper, or a side is too long.
-#[tactic(auto, using(crate::proofs::Charged::single_left, crate::proofs::Charged::single_right))]
+#[tactic(auto, using(std::proofs::lemmas::Int::ints, figures::proofs::Charges::sides_reach), unfolding(crate::specs::Loops::single))]
 fn single(bases: &[u8], i: usize, j: usize, x: usize, y: usize) -> Loop
     requires i_lt_x { (i < x) × (x < y) × (y < j) × (j < length bases.now) }
     requires j_value { (can_pair (view bases.now i) (view bases.now j) ≡ true) × (can_pair (view bases.now x) (view bases.now y) ≡ true) }
@@ -54,30 +55,31 @@ fn single(bases: &[u8], i: usize, j: usize, x: usize, y: usize) -> Loop
 }
 
 // The kind of the loop that opens at i.
+#[tactic(auto, using(crate::proofs::Openings::closes), unfolding(crate::specs::Loops::kind, crate::specs::Loops::kind_by))]
 pub fn kind_at(bases: &[u8], pairs: &[u16], i: usize) -> Loop
     requires { Chargeable bases.now pairs.now × (i < length pairs.now) × (opening i (view pairs.now i) ≡ true) }
     ensures { result ≡ kind (view bases.now) (view pairs.now) i }
 {
-    let j = pairs[i] as usize;
-    let arms = inner::arms_in(pairs, i + 1, j);
-    if arms == 0 {
-        return Loop::Hairpin(j - (i + 1));
+    let j = usize::from(pairs[i]);
+    match inner::arms_in(pairs, i + 1, j) {
+        0 => Loop::Hairpin(j - (i + 1)),
+        1 => {
+            let x = inner::first_in(pairs, i + 1, j);
+            single(bases, i, j, x, usize::from(pairs[x]))
+        }
+        arms => Loop::Many(arms),
     }
-    if arms == 1 {
-        let x = inner::first_in(pairs, i + 1, j);
-        return single(bases, i, j, x, pairs[x] as usize);
-    }
-    Loop::Many(arms)
 }
 
 // What the loop that opens at i costs.
+#[tactic(auto, using(crate::proofs::Openings::closes), unfolding(crate::specs::Loops::charge_at, crate::specs::Loops::charge_by))]
 pub fn charge_at(bases: &[u8], pairs: &[u16], i: usize) -> i32
     requires { Chargeable bases.now pairs.now × (i < length pairs.now) × (opening i (view pairs.now i) ≡ true) }
     ensures { result ≡ charge_at (view bases.now) (view pairs.now) i }
 {
-    let j = pairs[i] as usize;
+    let j = usize::from(pairs[i]);
     let x = inner::first_in(pairs, i + 1, j);
-    let y = pairs[x] as usize;
+    let y = usize::from(pairs[x]);
     let kind = kind_at(bases, pairs, i);
     let outer = bases::pair_index(bases[i], bases[j]);
     let inner = bases::pair_index(bases[x], bases[y]);
@@ -89,26 +91,17 @@ pub fn charge_at(bases: &[u8], pairs: &[u16], i: usize) -> i32
     )
 }
 
-// What position i adds to the energy.
-#[tactic(auto, using(crate::proofs::Openings::opens_is))]
-fn share(bases: &[u8], pairs: &[u16], i: usize) -> i32
-    requires { Chargeable bases.now pairs.now × (i < length pairs.now) }
-    ensures { result ≡ cond (opening i (view pairs.now i)) (charge_at (view bases.now) (view pairs.now) i) (pos 0) }
-{
-    if structure::opens(i, pairs[i]) {
-        return charge_at(bases, pairs, i);
-    }
-    0
-}
-
 // The energy of a structure.
+#[tactic(auto, using(std::proofs::lemmas::Int::ints, crate::proofs::Openings::total_small), unfolding(crate::specs::Loops::total))]
 pub fn energy_of(bases: &[u8], pairs: &[u16]) -> i32
     requires { Chargeable bases.now pairs.now }
     ensures { result ≡ energy_of bases.now pairs.now }
 {
     let mut sum = 0;
-    for i in 0..pairs.len() {
-        sum = ints::add(sum, share(bases, pairs, i));
+    for (i, &v) in pairs.iter().enumerate() {
+        if structure::opens(i, v) {
+            sum += charge_at(bases, pairs, i);
+        }
     }
     sum
 }
