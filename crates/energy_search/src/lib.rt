@@ -1,84 +1,56 @@
 // Searches for the first candidate that reaches the value of the cell (i, j).
 #![tactic(auto)]
 
-ghost use Rattle.std.specs.Prelude.{◌≡◌, true, suc, ◌+◌, ◌-◌, ◌≤◌, ◌<◌, length};
+ghost use Rattle.std.specs.Prelude.{◌≡◌, true, suc, ◌+◌, ◌-◌, ◌≤◌, ◌<◌};
 ghost use Rattle.structure.specs.Table.{view};
 ghost use Rattle.figures.specs.Figures.{longest, longest_side};
 ghost use Rattle.closing.specs.Closing.{may_close};
 ghost use Rattle.energy_rule.specs.Rule.{lowest};
 ghost use Rattle.energy_rule.specs.Memory.{table};
-ghost use Rattle.energy_reach.specs.Reach.{Ready};
 ghost use Rattle.energy_search.specs.Search.{splitting, inner_row, inside};
 
+use energy_reach::{Tables, Triangle};
 use figures::{LONGEST_SIDE, SMALLEST_HAIRPIN};
-use searches::Found;
 
 // How far apart the places of an inner pair are at least: a hairpin has room between them.
 const NEAREST: usize = SMALLEST_HAIRPIN + 1;
 
-// What the search for an inner pair finds.
-#[derive(Clone, Copy)]
-pub enum Within {
-    Pair(usize, usize),
-    Nowhere,
-}
-
 // The smallest split.
-pub fn splitting(cells: &[i32], i: usize, j: usize) -> Found
-    requires { (i < j) × Ready cells.now j }
-    ensures { result ≡ splitting (table cells.now) i j }
+pub fn splitting(cells: &Triangle, i: usize, j: usize) -> Option<usize>
+    requires { (i < j) × (j < cells.now.n) }
+    ensures { result ≡ splitting (table cells.now.cells.now) i j }
 {
-    let mut k = i + 1;
-    while k < j {
-        if energy_reach::split(cells, i, j, k) {
-            return Found::At(k);
-        }
-        k += 1;
-    }
-    Found::Nothing
+    (i + 1..j).find(|&k| cells.split(i, j, k))
 }
 
 // The inner pair with the first opening place, and of these with the first closing place.
-pub fn inside(bases: &[u8], paired: &[i32], i: usize, j: usize) -> Within
-    requires { (i < j) × (j < length bases.now) × (may_close (view bases.now) i j ≡ true) × Ready paired.now j }
-    ensures { result ≡ inside (view bases.now) (table paired.now) i j }
+pub fn inside(tables: &Tables, i: usize, j: usize) -> Option<(usize, usize)>
+    requires { (i < j) × (j < tables.now.paired.n) × (may_close (view tables.now.bases.now) i j ≡ true) }
+    ensures { result ≡ inside (view tables.now.bases.now) (table tables.now.paired.cells.now) i j }
 {
-    let end = i + 1 + cells::smaller(LONGEST_SIDE + 1, j - (i + 1));
-    let mut x = i + 1;
-    while x < end {
-        if let Found::At(y) = inner_row(bases, paired, i, j, x) {
-            return Within::Pair(x, y);
+    let end = i + 1 + (j - (i + 1)).min(LONGEST_SIDE + 1);
+    for x in i + 1..end {
+        if let Some(y) = inner_row(tables, i, j, x) {
+            return Some((x, y));
         }
-        x += 1;
     }
-    Within::Nowhere
+    None
 }
 
 // The first closing place of an inner pair that opens at x.
-fn inner_row(bases: &[u8], paired: &[i32], i: usize, j: usize, x: usize) -> Found
-    requires i_lt_x { (i < x) × (x ≤ j) × (j < length bases.now) × (x - suc i ≤ longest_side) }
-    requires j_value { (may_close (view bases.now) i j ≡ true) × Ready paired.now j }
-    ensures { result ≡ inner_row (view bases.now) (table paired.now) i j x }
+fn inner_row(tables: &Tables, i: usize, j: usize, x: usize) -> Option<usize>
+    requires i_lt_x { (i < x) × (x ≤ j) × (x - suc i ≤ longest_side) }
+    requires j_value { (j < tables.now.paired.n) × (may_close (view tables.now.bases.now) i j ≡ true) }
+    ensures { result ≡ inner_row (view tables.now.bases.now) (table tables.now.paired.cells.now) i j x }
 {
-    let mut y = lowest(j, x);
-    while y < j {
-        if energy_reach::inner(bases, paired, i, j, x, y) {
-            return Found::At(y);
-        }
-        y += 1;
-    }
-    Found::Nothing
+    (lowest(j, x)..j).find(|&y| tables.inner(i, j, x, y))
 }
 
 // The first place where an inner pair that opens at x may close.
+#[tactic(auto, using(figures::proofs::Charges::longest_low, energy_rule::proofs::Parts::lowest_is))]
 fn lowest(j: usize, x: usize) -> usize
     requires { (x ≤ j) × (j < longest + 2) }
     ensures { result ≡ lowest j x }
 {
-    let near = x + NEAREST;
-    if j <= near + LONGEST_SIDE {
-        near
-    } else {
-        j - (LONGEST_SIDE + 1)
-    }
+    (x + NEAREST).max(j.saturating_sub(LONGEST_SIDE + 1))
 }
