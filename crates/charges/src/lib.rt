@@ -54,54 +54,63 @@ fn single(bases: &[u8], i: usize, j: usize, x: usize, y: usize) -> Loop
     Loop::Many(1)
 }
 
-// The kind of the loop that opens at i.
-#[tactic(auto, using(crate::proofs::Openings::closes), unfolding(crate::specs::Loops::kind, crate::specs::Loops::kind_by))]
-pub fn kind_at(bases: &[u8], pairs: &[u16], i: usize) -> Loop
-    requires { Chargeable bases.now pairs.now × (i < length pairs.now) × (opening i (view pairs.now i) ≡ true) }
-    ensures { result ≡ kind (view bases.now) (view pairs.now) i }
-{
-    let j = usize::from(pairs[i]);
-    match inner::arms_in(pairs, i + 1, j) {
-        0 => Loop::Hairpin(j - (i + 1)),
-        1 => {
-            let x = inner::first_in(pairs, i + 1, j);
-            single(bases, i, j, x, usize::from(pairs[x]))
-        }
-        arms => Loop::Many(arms),
-    }
+// A strand and a structure of it, each loop of which may be charged.
+#[derive(Clone, Copy)]
+pub struct Strand<'a> {
+    pub bases: &'a [u8],
+    pub pairs: &'a [u16],
+    pub ghost chargeable: { Chargeable bases.now pairs.now },
 }
 
-// What the loop that opens at i costs.
-#[tactic(auto, using(crate::proofs::Openings::closes), unfolding(crate::specs::Loops::charge_at, crate::specs::Loops::charge_by))]
-pub fn charge_at(bases: &[u8], pairs: &[u16], i: usize) -> i32
-    requires { Chargeable bases.now pairs.now × (i < length pairs.now) × (opening i (view pairs.now i) ≡ true) }
-    ensures { result ≡ charge_at (view bases.now) (view pairs.now) i }
-{
-    let j = usize::from(pairs[i]);
-    let x = inner::first_in(pairs, i + 1, j);
-    let y = usize::from(pairs[x]);
-    let kind = kind_at(bases, pairs, i);
-    let outer = bases::pair_index(bases[i], bases[j]);
-    let inner = bases::pair_index(bases[x], bases[y]);
-    figures::charge(
-        kind,
-        outer,
-        inner,
-        closing::purines(bases[i + 1], bases[j - 1]),
-    )
-}
-
-// The energy of a structure.
-#[tactic(auto, using(std::proofs::lemmas::Int::ints, crate::proofs::Openings::total_small), unfolding(crate::specs::Loops::total))]
-pub fn energy_of(bases: &[u8], pairs: &[u16]) -> i32
-    requires { Chargeable bases.now pairs.now }
-    ensures { result ≡ energy_of bases.now pairs.now }
-{
-    let mut sum = 0;
-    for (i, &v) in pairs.iter().enumerate() {
-        if structure::opens(i, v) {
-            sum += charge_at(bases, pairs, i);
+impl Strand<'_> {
+    // The kind of the loop that opens at i.
+    #[tactic(auto, using(crate::proofs::Openings::closes), unfolding(crate::specs::Loops::kind, crate::specs::Loops::kind_by))]
+    pub fn kind_at(&self, i: usize) -> Loop
+        requires { (i < length self.now.pairs.now) × (opening i (view self.now.pairs.now i) ≡ true) }
+        ensures { result ≡ kind (view self.now.bases.now) (view self.now.pairs.now) i }
+    {
+        let j = usize::from(self.pairs[i]);
+        match inner::arms_in(self.pairs, i + 1, j) {
+            0 => Loop::Hairpin(j - (i + 1)),
+            1 => {
+                let x = inner::first_in(self.pairs, i + 1, j);
+                single(self.bases, i, j, x, usize::from(self.pairs[x]))
+            }
+            arms => Loop::Many(arms),
         }
     }
-    sum
+
+    // What the loop that opens at i costs.
+    #[tactic(auto, using(crate::proofs::Openings::closes), unfolding(crate::specs::Loops::charge_at, crate::specs::Loops::charge_by))]
+    pub fn charge_at(&self, i: usize) -> i32
+        requires { (i < length self.now.pairs.now) × (opening i (view self.now.pairs.now i) ≡ true) }
+        ensures { result ≡ charge_at (view self.now.bases.now) (view self.now.pairs.now) i }
+    {
+        let j = usize::from(self.pairs[i]);
+        let x = inner::first_in(self.pairs, i + 1, j);
+        let y = usize::from(self.pairs[x]);
+        let kind = self.kind_at(i);
+        let outer = bases::pair_index(self.bases[i], self.bases[j]);
+        let inner = bases::pair_index(self.bases[x], self.bases[y]);
+        figures::charge(
+            kind,
+            outer,
+            inner,
+            closing::purines(self.bases[i + 1], self.bases[j - 1]),
+        )
+    }
+
+    // The energy of a structure.
+    #[tactic(auto, using(std::proofs::lemmas::Int::ints, crate::proofs::Openings::total_small), unfolding(crate::specs::Loops::total))]
+    pub fn energy_of(&self) -> i32
+        ensures { result ≡ energy_of self.now.bases.now self.now.pairs.now }
+    {
+        let mut sum = 0;
+        for (i, &v) in self.pairs.iter().enumerate() {
+            if structure::opens(i, v) {
+                sum += self.charge_at(i);
+            }
+        }
+        sum
+    }
 }

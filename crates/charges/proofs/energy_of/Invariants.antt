@@ -1,8 +1,0 @@
--- `charges::energy_of` meets its contract. The loop's invariant: the sum is that of the loops that open before i, which stays small.
-use mathlib.Core.Path.{◌≡◌}
-use Rattle.structure.specs.Table.{view}
-use Rattle.charges.specs.Loops.{total}
-use Rattle.charges.proofs.energy_of.Given as goal
-
-abbrev pub invariant-loop-i : goal.invariant-loop-i
-invariant-loop-i l = l.sum ≡ total (view l.bases) (view l.pairs) l.i
