@@ -1,66 +1,56 @@
 // What the lines come to, counted and written out.
 ghost use Rattle.std.specs.Prelude.{◌≡◌, ◌+◌, ◌≤◌, ◌<◌};
 
-use std::io;
+use std::fmt;
 
-// The lines so far, those whose pair-count fold agrees, those whose energy fold does, and the first that differs in either,
-// counted from 1; 0 while none does.
+// The lines so far, those whose pair-count fold agrees, those whose energy fold does, and the first that differs in either, counted from 1.
 #[derive(Clone, Copy)]
 pub struct Tally {
-    pub lines: usize,
-    pub counts: usize,
-    pub energies: usize,
-    pub first: usize,
+    lines: usize,
+    counts: usize,
+    energies: usize,
+    first: Option<usize>,
+    ghost counts_of_lines: { counts ≤ lines },
+    ghost energies_of_lines: { energies ≤ lines },
 }
 
 impl Tally {
     pub fn new() -> Self
-        ensures { (result.counts ≤ result.lines) × (result.energies ≤ result.lines) × (result.lines ≡ 0) }
+        ensures { result.lines ≡ 0 }
     {
         Self {
             lines: 0,
             counts: 0,
             energies: 0,
-            first: 0,
+            first: None,
         }
     }
 
     // One line more.
     pub fn with(self, count: bool, energy: bool) -> Self
-        requires { (self.counts ≤ self.lines) × (self.energies ≤ self.lines) × (self.lines < 18446744073709551615) }
-        ensures { (result.counts ≤ result.lines) × (result.energies ≤ result.lines) × (result.lines ≤ self.lines + 1) }
+        requires { self.lines < 18446744073709551615 }
+        ensures { result.lines ≤ self.lines + 1 }
     {
         let lines = self.lines + 1;
+        let differs = if count && energy { None } else { Some(lines) };
         Self {
             lines,
-            counts: self.counts + one_if(count),
-            energies: self.energies + one_if(energy),
-            first: first_of(self.first, lines, count && energy),
+            counts: self.counts + usize::from(count),
+            energies: self.energies + usize::from(energy),
+            first: self.first.or(differs),
         }
     }
 }
 
-fn one_if(agrees: bool) -> usize
-    ensures { result ≤ 1 }
-{
-    if agrees { 1 } else { 0 }
-}
-
-// The first line that differs, after one line more.
-fn first_of(first: usize, line: usize, agrees: bool) -> usize {
-    if agrees {
-        return first;
-    }
-    if 0 < first { first } else { line }
-}
-
 // The last line is there only where a line differs.
-pub fn write(rt: &impl Print, tally: Tally) -> io::Result<()> {
-    println!(rt; "{} lines", tally.lines)?;
-    println!(rt; "{} counts and structures agree", tally.counts)?;
-    println!(rt; "{} energies agree", tally.energies)?;
-    if 0 < tally.first {
-        println!(rt; "line {} differs", tally.first)?;
+impl fmt::Display for Tally {
+    fn fmt<W: fmt::Write>(&self, f: &mut fmt::Formatter<W>) -> fmt::Result {
+        writeln!(f, "{} lines", self.lines)?;
+        writeln!(f, "{} counts and structures agree", self.counts)?;
+        writeln!(f, "{} energies agree", self.energies)?;
+        if let Some(line) = self.first {
+            writeln!(f, "line {line} differs")?;
+        }
+        Ok(())
     }
-    Ok(())
 }
