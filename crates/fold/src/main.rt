@@ -118,21 +118,12 @@ fn fold(rt: &impl Print, seq: &[u8]) -> io::Result<()> {
 }
 
 // The next byte of the first line of standard input, read by itself, so that nothing after the line is waited for.
-#[derive(Clone, Copy)]
-enum Next {
-    Byte(u8),
-    End,
-}
-
-fn next_byte(input: &mut impl Read) -> io::Result<Next> {
-    let mut byte = [0u8; 1];
-    if input.read(&mut byte)? == 0 {
-        return Ok(Next::End);
+fn next_byte(input: &mut impl Read) -> io::Result<Option<u8>> {
+    let mut byte = [0u8];
+    if input.read(&mut byte)? == 0 || byte[0] == b'\n' {
+        return Ok(None);
     }
-    if byte[0] == b'\n' {
-        return Ok(Next::End);
-    }
-    Ok(Next::Byte(byte[0]))
+    Ok(Some(byte[0]))
 }
 
 // The line, as far as there is room; how many bytes it has.
@@ -141,16 +132,13 @@ fn read_line(input: &mut impl Read, line: &mut [u8]) -> io::Result<usize>
     ensures ok { IfOk result (λ n. IsPrefixLen n line.new) }
     ensures err { OnErr result (length line.new ≡ length line.old) }
 {
-    let mut n = 0;
-    while n < line.len() {
-        let next = next_byte(input)?;
-        let Next::Byte(byte) = next else {
+    for (n, place) in line.iter_mut().enumerate() {
+        let Some(byte) = next_byte(input)? else {
             return Ok(n);
         };
-        line[n] = byte;
-        n += 1;
+        *place = byte;
     }
-    Ok(n)
+    Ok(line.len())
 }
 
 fn fold_input(rt: &(impl Input + Print)) -> io::Result<()> {
