@@ -4,22 +4,13 @@
 
 ghost use Rattle.std.specs.Prelude.{◌≡◌, true, ◌<◌, length};
 ghost use Rattle.structure.specs.Table.{view};
-ghost use Rattle.ints.specs.Ints.{Small};
 ghost use Rattle.charges.specs.Loops.{opening, Chargeable};
 
+use fields::Lines;
 use figures::Loop;
 use refusals::FOLD_LIMIT;
 use std::io;
 use structure::Answer;
-
-fn energy(rt: &impl Print, z: i32) -> io::Result<()>
-    requires { Small z }
-{
-    if z < 0 {
-        print!(rt; "-")?;
-    }
-    rt.print(ints::magnitude(z))
-}
 
 fn kind(rt: &impl Print, kind: Loop) -> io::Result<()> {
     match kind {
@@ -35,11 +26,10 @@ fn kind(rt: &impl Print, kind: Loop) -> io::Result<()> {
 fn entry(rt: &impl Print, bases: &[u8], pairs: &[u16], i: usize) -> io::Result<()>
     requires { Chargeable bases.now pairs.now × (i < length pairs.now) × (opening i (view pairs.now i) ≡ true) }
 {
+    let charge = charges::charge_at(bases, pairs, i);
     rt.print(i)?;
     kind(rt, charges::kind_at(bases, pairs, i))?;
-    print!(rt; " ")?;
-    energy(rt, charges::charge_at(bases, pairs, i))?;
-    print!(rt; ", ")
+    print!(rt; " {charge}, ")
 }
 
 // Whether the entry v of position k opens a pair.
@@ -49,25 +39,15 @@ fn opens(k: usize, v: u16) -> bool
     v != 65535 && k < v as usize
 }
 
-// Position i, where it opens a pair.
-fn position(rt: &impl Print, bases: &[u8], pairs: &[u16], i: usize) -> io::Result<()>
-    requires { Chargeable bases.now pairs.now × (i < length pairs.now) }
-{
-    if opens(i, pairs[i]) {
-        entry(rt, bases, pairs, i)?;
-    }
-    Ok(())
-}
-
 fn account(rt: &impl Print, bases: &[u8], pairs: &[u16]) -> io::Result<()>
     requires { Chargeable bases.now pairs.now }
 {
-    let mut i = 0;
-    while i < pairs.len() {
-        position(rt, bases, pairs, i)?;
-        i += 1;
+    for (i, v) in pairs.iter().enumerate() {
+        if opens(i, *v) {
+            entry(rt, bases, pairs, i)?;
+        }
     }
-    energy(rt, charges::energy_of(bases, pairs))
+    rt.print(charges::energy_of(bases, pairs))
 }
 
 // What may be charged is; what may not be says why.
@@ -111,19 +91,12 @@ fn line(rt: &impl Print, text: &[u8]) -> io::Result<()> {
     println!(rt;)
 }
 
-fn lines(rt: &impl Print, list: &[u8]) -> io::Result<()> {
-    let mut at = 0;
-    while at < list.len() {
-        let end = fields::end_of_line(list, at);
-        line(rt, &list[at..end])?;
-        at = end;
-    }
-    Ok(())
-}
-
 // What is past the room isn't read.
 fn main(rt: HostRuntime) -> io::Result<()> {
     let mut list = [0u8; 65536];
     let n = fields::read_full(&mut rt.reader(), &mut list)?;
-    lines(&rt, &list[..n])
+    for text in Lines(&list[..n]) {
+        line(&rt, text)?;
+    }
+    Ok(())
 }
