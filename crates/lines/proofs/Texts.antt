@@ -1,36 +1,27 @@
--- What each text is made of, and that it is short. Assumes nothing.
-use mathlib.Core.Path.{◌≡◌, refl}
-use mathlib.Core.List.{List, [], ◌∷◌, ◌++◌}
-use Prim.Native.Nat.{ℕ, ◌/◌, ◌≤◌}
-use native.Mathlib.Omega.{arith}
-use lib.IntN.{ℤ, pos, negsuc, nat_abs}
-use lib.ListN.{length, length-append}
-use lib.Signed.{◌≤ℤ◌, ◌<ℤ◌}
-use Rattle.io.specs.Digits.{last_digits}
-use Rattle.ints.proofs.Ints.{ints}
+-- Each text is short, and the lines of the rules are what the definitions give. Assumes nothing.
+use Rattle.std.proofs.Common.{◌≡◌, refl, ℕ, zero, suc, ◌/◌, ◌≤◌, [], ◌∷◌, Option, None, Some, ℤ, pos, negsuc, nat_abs, length, length-append, arith}
+use Rattle.std.proofs.lemmas.Grind.{common_steps}
 use Rattle.refusals.specs.Refusals.{number, place}
 use Rattle.refusals.specs.declared.Refusal.{Refusal}
 use Rattle.refusals.specs.declared.Refusal.TheVariants.{NoBase}
-use Rattle.refusals.specs.declared.Place.{Place}
-use Rattle.refusals.specs.declared.Place.TheVariants.{Nowhere, At}
 use Rattle.lines.specs.Text.{shown, decimal, sign_of, place_text, pairs_text, energy_text, refused_text}
-use Rattle.lines.proofs.Digits.{decimal_short}
 
-pub sign_short : (z : ℤ) → length (sign_of z) ≤ 1
+shown_short : (f n : ℕ) → length (shown f n) ≤ f
+unfolding shown
+shown_short zero n = omega arith
+shown_short (suc f) n = grind (arith, common_steps, shown_short f (n / 10))
+
+decimal_short : (n : ℕ) → length (decimal n) ≤ 20
+unfolding decimal
+decimal_short n = shown_short 20 n
+
+sign_short : (z : ℤ) → length (sign_of z) ≤ 1
 sign_short (pos n) = omega arith
 sign_short (negsuc n) = omega arith
 
-pub sign_below : (z : ℤ) → z <ℤ pos 0 → sign_of z ≡ 45 ∷ []
-sign_below (pos n) h = absurd (omega (ints, h))
-sign_below (negsuc n) h = refl
-
-pub sign_above : (z : ℤ) → pos 0 ≤ℤ z → sign_of z ≡ []
-sign_above (pos n) h = refl
-sign_above (negsuc n) h = absurd (omega (ints, h))
-
-place_short : (p : Place) → length (place_text p) ≤ 24
-place_short Nowhere = omega arith
-place_short (At k) = omega (arith, decimal_short k)
+place_short : (p : Option ℕ) → length (place_text p) ≤ 24
+place_short None = omega arith
+place_short (Some k) = omega (arith, decimal_short k)
 
 pub pairs_short : (n : ℕ) → length (pairs_text n) ≤ 26
 unfolding pairs_text
@@ -38,30 +29,13 @@ pairs_short n = omega (arith, decimal_short n)
 
 pub energy_short : (z : ℤ) → length (energy_text z) ≤ 32
 unfolding energy_text
-energy_short z =
-    let n = nat_abs z in
-    let point : List ℕ = 46 ∷ last_digits 10 3 n in
-    omega (arith, sign_short z, decimal_short (n / 1000), length-append (sign_of z) (decimal (n / 1000) ++ point), length-append (decimal (n / 1000)) point)
+energy_short z = omega (arith, sign_short z, decimal_short (nat_abs z / 1000), length-append {A = ℕ})
 
 pub refused_short : (q : Refusal) → length (refused_text q) ≤ 52
 unfolding refused_text
-refused_short q =
-    omega (arith, decimal_short (number q), place_short (place q), length-append (decimal (number q)) (place_text (place q)))
+refused_short q = omega (arith, decimal_short (number q), place_short (place q), length-append {A = ℕ})
 
--- of a number that is z, and of its magnitude
-pub energy_is :
-    (y z : ℤ) (n : ℕ) → y ≡ z → n ≡ nat_abs y →
-    (101 ∷ 110 ∷ 101 ∷ 114 ∷ 103 ∷ 121 ∷ 32 ∷ []) ++ (sign_of y ++ (decimal (n / 1000) ++ 46 ∷ last_digits 10 3 n)) ≡ energy_text z
-unfolding energy_text
-energy_is y z n e m = rw (m, e)
-
-pub refused_is :
-    (q : Refusal) (n : ℕ) (p : Place) → n ≡ number q → p ≡ place q →
-    (114 ∷ 101 ∷ 102 ∷ 117 ∷ 115 ∷ 101 ∷ 100 ∷ 32 ∷ []) ++ (decimal n ++ place_text p) ≡ refused_text q
-unfolding refused_text
-refused_is q n p e f = rw (e, f)
-
--- the lines of the rules: `pairs 3`, `energy -1.200`, `refused 2 at 4`; and `energy 0.000`
+-- `pairs 3`, `energy -1.200`, `refused 2 at 4`; and `energy 0.000`
 pub pairs_of_3 : pairs_text 3 ≡ 112 ∷ 97 ∷ 105 ∷ 114 ∷ 115 ∷ 32 ∷ 51 ∷ []
 unfolding pairs_text decimal shown
 pairs_of_3 = refl

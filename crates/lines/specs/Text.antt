@@ -1,11 +1,9 @@
 -- Answers as text: lists of ASCII codes. Assumes nothing: these are definitions.
-use Rattle.std.specs.Prelude.{◌≡◌, cond, List, [], ◌∷◌, ◌++◌, ℕ, zero, suc, ◌+◌, ◌/◌, ◌%◌, ltb, ℤ, pos, negsuc, nat_abs, length, drop}
-use Rattle.std.proofs.lemmas.List.Edits.{sets}
+use Rattle.std.specs.Prelude.{◌≡◌, cond, List, [], ◌∷◌, ◌++◌, ℕ, zero, suc, ◌+◌, ◌/◌, ◌%◌, ltb, ℤ, pos, negsuc, nat_abs, Option, None, Some, length, take, drop}
 use Rattle.io.specs.Digits.{last_digits, hex_digit_ascii}
 use Rattle.refusals.specs.Refusals.{number, place}
 use Rattle.refusals.specs.declared.Refusal.{Refusal}
-use Rattle.refusals.specs.declared.Place.{Place}
-use Rattle.refusals.specs.declared.Place.TheVariants.{Nowhere, At}
+use Rattle.lines.specs.declared.Line.{Line}
 
 -- the digits of n in decimal with no zeros in front, the last k of them where there are more
 unfoldable pub shown : ℕ → ℕ → List ℕ
@@ -26,9 +24,9 @@ abbrev pub thousandths : ℤ → List ℕ
 thousandths z = sign_of z ++ (decimal (nat_abs z / 1000) ++ 46 ∷ last_digits 10 3 (nat_abs z))
 
 -- ` at 4`, or nothing
-abbrev pub place_text : Place → List ℕ
-place_text Nowhere = []
-place_text (At k) = (32 ∷ 97 ∷ 116 ∷ 32 ∷ []) ++ decimal k
+abbrev pub place_text : Option ℕ → List ℕ
+place_text None = []
+place_text (Some k) = (32 ∷ 97 ∷ 116 ∷ 32 ∷ []) ++ decimal k
 
 -- `pairs 3`
 unfoldable pub pairs_text : ℕ → List ℕ
@@ -42,10 +40,12 @@ energy_text z = (101 ∷ 110 ∷ 101 ∷ 114 ∷ 103 ∷ 121 ∷ 32 ∷ []) ++ t
 unfoldable pub refused_text : Refusal → List ℕ
 refused_text q = (114 ∷ 101 ∷ 102 ∷ 117 ∷ 115 ∷ 101 ∷ 100 ∷ 32 ∷ []) ++ (decimal (number q) ++ place_text (place q))
 
--- o' is o with the text s put at a place, where it ends at r
-pub record Puts (o o' : List ℕ) (at : ℕ) (s : List ℕ) (r : ℕ) : Type 0 where
-  pub end : r ≡ at + length s
-  pub text : o' ≡ sets o at s
+-- l' is the line l with the text s put at its end: in the same buffer, whose rest is as it was
+pub record Puts (l l' : Line) (s : List ℕ) : Type 0 where
+  pub buffer : l'.out.ghost_name ≡ l.out.ghost_name
+  pub end : l'.len ≡ l.len + length s
+  pub text : take l'.len l'.out.now ≡ take l.len l.out.now ++ s
+  pub rest : drop l'.len l'.out.now ≡ drop l'.len l.out.now
 
 -- o' starts with the r bytes of the text s, and the rest is as it was in o
 pub record Holds (o o' : List ℕ) (s : List ℕ) (r : ℕ) : Type 0 where

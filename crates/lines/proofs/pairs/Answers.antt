@@ -1,14 +1,8 @@
--- `lines::pairs` meets its contract: two texts, one where the other ends.
--- Assumes nothing.
-use mathlib.Core.Path.{refl}
-use native.Mathlib.Omega.{arith}
-use Rattle.lines.proofs.Texts.{pairs_short}
-use Rattle.lines.proofs.Putting.{put_join, put_line}
+use Rattle.std.proofs.Common.{refl, rules}
+use Rattle.lines.proofs.Putting.{put_join, held}
 use Rattle.lines.specs.Text.{pairs_text}
 use Rattle.lines.proofs.pairs.Goals as goal
 
-pub returns : goal.returns
+pub returns-clause-holds : goal.returns-clause-holds
 unfolding pairs_text
-returns c =
-    let both = put_line (put_join c.put-from.ensures c.number.ensures) refl (omega (arith, pairs_short c.args.count)) in
-    record { prefix_len = both.0; holds = both.1 }
+returns-clause-holds c = held (search rules) (put_join c.put.ensures c.number.ensures.puts) refl refl
