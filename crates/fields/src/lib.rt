@@ -17,6 +17,7 @@ pub fn read_full<R: Read>(input: &mut R, list: &mut [u8]) -> io::Result<usize>
     ensures err { OnErr result (length list.new ≡ length list.old) }
 {
     let mut done = 0;
+    // No `for`: how many bytes a read gives is known only after it.
     while done < list.len() {
         let n = input.read(&mut list[done..])?;
         if n == 0 {
@@ -39,6 +40,7 @@ pub fn end_of_line(list: &[u8], from: usize) -> usize
 }
 
 // The lines of a list in turn: what is given and then what is left are the list.
+// std's `split_inclusive` cuts alike; this one goes by `end_of_line`, whose contract says where a line ends.
 #[derive(Drop)]
 pub struct Lines<'a>(pub &'a [u8]);
 
