@@ -10,7 +10,6 @@ use fields::Lines;
 use figures::Loop;
 use refusals::FOLD_LIMIT;
 use std::io;
-use structure::Answer;
 
 fn kind(rt: &impl Print, kind: Loop) -> io::Result<()> {
     match kind {
@@ -32,18 +31,11 @@ fn entry(rt: &impl Print, bases: &[u8], pairs: &[u16], i: usize) -> io::Result<(
     print!(rt; " {charge}, ")
 }
 
-// Whether the entry v of position k opens a pair.
-fn opens(k: usize, v: u16) -> bool
-    ensures { result ≡ opening k v }
-{
-    v != 65535 && k < v as usize
-}
-
 fn account(rt: &impl Print, bases: &[u8], pairs: &[u16]) -> io::Result<()>
     requires { Chargeable bases.now pairs.now }
 {
-    for (i, v) in pairs.iter().enumerate() {
-        if opens(i, *v) {
+    for (i, &v) in pairs.iter().enumerate() {
+        if structure::opens(i, v) {
             entry(rt, bases, pairs, i)?;
         }
     }
@@ -58,10 +50,9 @@ fn weigh(rt: &impl Print, bases: &[u8], pairs: &[u16]) -> io::Result<()> {
     if bases.len() != pairs.len() {
         return print!(rt; "unequal");
     }
-    let counted = queries::num_pairs(pairs);
-    let Answer::Number(_) = counted else {
+    if queries::num_pairs(pairs).is_err() {
         return print!(rt; "unsound");
-    };
+    }
     let barred = charges::first_barred(bases, pairs);
     if barred < pairs.len() {
         return print!(rt; "barred {barred}");
@@ -71,15 +62,14 @@ fn weigh(rt: &impl Print, bases: &[u8], pairs: &[u16]) -> io::Result<()> {
 
 fn strand(rt: &impl Print, bases: &[u8], text: &[u8]) -> io::Result<()> {
     let mut pairs = [0u16; FOLD_LIMIT];
-    let parsed = brackets::from_dot_bracket(text, &mut pairs);
-    let Answer::Number(n) = parsed else {
+    let Ok(n) = brackets::from_dot_bracket(text, &mut pairs) else {
         return print!(rt; "no structure");
     };
-    // Never so after a parse: a test is shorter than the proof of that.
-    if FOLD_LIMIT < n {
+    // Never `None` after a parse: a test is shorter than the proof of that.
+    let Some(table) = pairs.get(..n) else {
         return Ok(());
-    }
-    weigh(rt, bases, &pairs[..n])
+    };
+    weigh(rt, bases, table)
 }
 
 fn line(rt: &impl Print, text: &[u8]) -> io::Result<()> {

@@ -1,12 +1,8 @@
 -- `loops::weigh` is safe: what is charged has passed every test that charging asks for.
-use mathlib.Core.Path.{◌≡◌, subst}
-use mathlib.Core.List.{List}
-use Prim.Native.Nat.{ℕ, ◌≤◌}
-use native.Mathlib.Omega.{arith}
-use lib.ListN.{length}
+use Rattle.std.proofs.Common.{◌≡◌, ◌≤◌, ℕ, false, List, Result, Ok, Err, length, arith, sym}
+use Rattle.std.specs.Result.{is_err}
 use Rattle.refusals.specs.Refusals.{fold_limit}
-use Rattle.structure.specs.declared.Answer.{Answer}
-use Rattle.structure.specs.declared.Answer.TheVariants.{Number}
+use Rattle.refusals.specs.declared.Refusal.{Refusal}
 use Rattle.structure.specs.Table.{view, Sound}
 use Rattle.structure.proofs.Checking.{table_clear}
 use Rattle.queries.specs.Calls.{Counts}
@@ -15,8 +11,9 @@ use Rattle.charges.specs.Loops.{first_barred, Chargeable}
 use Rattle.charges.proofs.Barred.{barred_most, candidate}
 use Rattle.loops.proofs.weigh.Goals as goal
 
-counted : (t : List ℕ) (a : Answer) (m : ℕ) → a ≡ Number m → Counts t a → Sound t
-counted t a m e h = (table_clear t (subst (λ (x : Answer). Counts t x) e h).0).1
+counted : (t : List ℕ) (r : Result ℕ Refusal) → is_err r ≡ false → Counts t r → Sound t
+counted t (Ok m) e h = (table_clear t h.0).1
+counted t (Err q) e h = absurd (cc)
 
 chargeable : (b t : List ℕ) → Sound t → length t ≤ fold_limit → length t ≤ length b → length t ≤ first_barred b t → Chargeable b t
 chargeable b t s short room none =
@@ -27,8 +24,8 @@ chargeable b t s short room none =
     }
 
 pub first_barred-barred-requires : goal.first_barred-barred-requires
-first_barred-barred-requires g c = (counted c.args.pairs.now _ _ c.in-Number.is c.num_pairs-counted.ensures, omega arith)
+first_barred-barred-requires g c = (counted _ _ (sym c.if-is_err.ensures.value) c.num_pairs.ensures, omega arith)
 
 pub account-requires : goal.account-requires
 account-requires g c =
-    chargeable c.args.bases.now c.args.pairs.now (counted c.args.pairs.now _ _ c.in-Number.is c.num_pairs-counted.ensures) (omega arith) (omega arith) (omega (arith, c.first_barred-barred.ensures))
+    chargeable _ _ (counted _ _ (sym c.if-is_err.ensures.value) c.num_pairs.ensures) (omega arith) (omega arith) (omega (arith, c.first_barred-barred.ensures))
