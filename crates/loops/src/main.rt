@@ -4,8 +4,9 @@
 
 ghost use Rattle.std.specs.Prelude.{◌≡◌, true, ◌<◌, length};
 ghost use Rattle.structure.specs.Table.{view};
-ghost use Rattle.charges.specs.Loops.{opening, Chargeable};
+ghost use Rattle.charges.specs.Loops.{opening};
 
+use charges::Strand;
 use fields::Lines;
 use figures::Loop;
 use refusals::FOLD_LIMIT;
@@ -22,24 +23,22 @@ fn kind(rt: &impl Print, kind: Loop) -> io::Result<()> {
 }
 
 // The loop that opens at i.
-fn entry(rt: &impl Print, bases: &[u8], pairs: &[u16], i: usize) -> io::Result<()>
-    requires { Chargeable bases.now pairs.now × (i < length pairs.now) × (opening i (view pairs.now i) ≡ true) }
+fn entry(rt: &impl Print, strand: &Strand, i: usize) -> io::Result<()>
+    requires { (i < length strand.now.pairs.now) × (opening i (view strand.now.pairs.now i) ≡ true) }
 {
-    let charge = charges::charge_at(bases, pairs, i);
+    let charge = strand.charge_at(i);
     rt.print(i)?;
-    kind(rt, charges::kind_at(bases, pairs, i))?;
+    kind(rt, strand.kind_at(i))?;
     print!(rt; " {charge}, ")
 }
 
-fn account(rt: &impl Print, bases: &[u8], pairs: &[u16]) -> io::Result<()>
-    requires { Chargeable bases.now pairs.now }
-{
-    for (i, &v) in pairs.iter().enumerate() {
+fn account(rt: &impl Print, strand: &Strand) -> io::Result<()> {
+    for (i, &v) in strand.pairs.iter().enumerate() {
         if structure::opens(i, v) {
-            entry(rt, bases, pairs, i)?;
+            entry(rt, strand, i)?;
         }
     }
-    rt.print(charges::energy_of(bases, pairs))
+    rt.print(strand.energy_of())
 }
 
 // What may be charged is; what may not be says why.
@@ -57,7 +56,7 @@ fn weigh(rt: &impl Print, bases: &[u8], pairs: &[u16]) -> io::Result<()> {
     if barred < pairs.len() {
         return print!(rt; "barred {barred}");
     }
-    account(rt, bases, pairs)
+    account(rt, &Strand { bases, pairs })
 }
 
 fn strand(rt: &impl Print, bases: &[u8], text: &[u8]) -> io::Result<()> {

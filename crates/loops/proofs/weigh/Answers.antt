@@ -26,6 +26,6 @@ chargeable b t s short room none =
 pub first_barred-barred-requires : goal.first_barred-barred-requires
 first_barred-barred-requires g c = (counted _ _ (sym c.if-is_err.ensures.value) c.num_pairs.ensures, omega arith)
 
-pub account-requires : goal.account-requires
-account-requires g c =
-    chargeable _ _ (counted _ _ (sym c.if-is_err.ensures.value) c.num_pairs.ensures) (omega arith) (omega arith) (omega (arith, c.first_barred-barred.ensures))
+pub invariant_of-account : goal.invariant_of-account
+invariant_of-account g c =
+    record { chargeable = chargeable _ _ (counted _ _ (sym c.if-is_err.ensures.value) c.num_pairs.ensures) (omega arith) (omega arith) (omega (arith, c.first_barred-barred.ensures)) }
