@@ -1,4 +1,5 @@
 // What a closing pair costs by its bases and places, with no inner pair or with one: all that a fold asks of the bases of a loop.
+// The places are i, j, x and y, as in the definitions: a struct of them would only give the four other names.
 #![tactic(auto)]
 
 ghost use Rattle.std.specs.Prelude.{◌≡◌, true, suc, ◌-◌, ◌<◌, ◌≤◌, length};

@@ -1,4 +1,5 @@
 // Edits of a fold that counted pairs, and the traceback from its record, over the memory that the caller kept.
+// Record, bases and cells are handed in apart, as C hands them in.
 #![tactic(auto)]
 
 ghost use Rattle.count_edits.specs.Calls.{with_record, Replaces, Adds, Erases, Traces};

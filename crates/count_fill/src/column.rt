@@ -42,7 +42,7 @@ fn start(bases: &[u8], cells: &mut [u16], j: usize, to: usize, from: usize, gap:
     requires { (to ≡ tri j) × (from ≤ j) × Before bases.now cells.old j }
     ensures { Started gap (view bases.now) (view cells.old) (view cells.new) j (from + 1) }
 {
-    for i in 0..=from {
+    for i in 0..from + 1 {
         cells[to + i] = opening(bases, cells, i, j, gap);
     }
 }

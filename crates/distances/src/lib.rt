@@ -88,6 +88,7 @@ fn climb(a: &[u16], b: &[u16]) -> usize
     sum
 }
 
+// The two calls differ in the measure alone, and a function that is handed it would be longer than both.
 // How many pairs are in one of two structures and not in the other.
 #[tactic(auto, using(crate::proofs::Distances::both_clear))]
 pub fn base_pair_distance(a: &[u16], b: &[u16]) -> Result<usize, Refusal>

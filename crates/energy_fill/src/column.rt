@@ -47,7 +47,7 @@ fn close_all(
     ensures { Started (closed (view bases.now) (table paired.old) (table arms.now) j) (nums paired.old) (nums paired.new) j (from + 1) }
 {
     let to = cells::place(0, j);
-    for i in 0..=from {
+    for i in 0..from + 1 {
         paired[to + i] = close(bases, sides, paired, arms, i, j);
     }
 }

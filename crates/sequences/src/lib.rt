@@ -20,7 +20,7 @@ pub fn first_no_base(sequence: &[u8]) -> Result<(), Refusal>
     Ok(())
 }
 
-// The letter that is kept of a byte; 0 where it is no base.
+// The letter that is kept of a byte; 0 where it is no base, as `normal` has it: the call answers every byte.
 pub fn letter_of(byte: u8) -> u8
     ensures { result ≡ normal byte }
 {

@@ -30,9 +30,7 @@ loop-i-preserved c =
     closed_more _ _ _ _ _ _ c.loop-i.i _ _ (omega arith) (put_set (pos 0) c.loop-i.paired (c.place-to.result + c.loop-i.i) _ (omega (arith, tri_step c.args.j)))
     (is c.close.result c.close.type_inv c.close.ensures) c.loop-i.invariant
 
-pub returns-2 : goal.returns-2
-returns-2 c =
-    let last : c.loop-i.i + 1 ≡ c.args.from + 1 = omega arith in
-    subst (Started _ _ _ _) last
-    (closed_more _ _ _ _ _ _ c.loop-i.i _ _ (omega arith) (put_set (pos 0) c.loop-i.paired (c.place-to.result + c.loop-i.i) _ (omega (arith, tri_step c.args.j)))
-    (is c.close.result c.close.type_inv c.close.ensures) c.loop-i.invariant)
+pub returns : goal.returns
+returns c =
+    let last : c.loop-i.i ≡ c.args.from + 1 = omega arith in
+    subst (Started _ _ _ _) last c.loop-i.invariant
