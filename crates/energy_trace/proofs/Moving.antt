@@ -7,8 +7,7 @@ use borrow.Author.Tests.{ltb-true}
 use lib.Dec.{ltb}
 use lib.IntN.{pos}
 use lib.Signed.{lt_z}
-use Rattle.searches.specs.declared.Found.{Found}
-use Rattle.searches.specs.declared.Found.TheVariants.{At, Nothing}
+use Rattle.std.proofs.Common.{Option, None, Some}
 use Rattle.cells.specs.Rule.{Bases}
 use Rattle.ints.specs.Ints.{mark, add_e}
 use Rattle.ints.proofs.Ints.{either}
@@ -16,9 +15,7 @@ use Rattle.closing.specs.Closing.{may_close, hairpin_at}
 use Rattle.closing.proofs.Closing.{close_far}
 use Rattle.energy_rule.specs.Rule.{Table, closing_charge, arm_charge}
 use Rattle.energy_reach.specs.Reach.{same, reaches}
-use Rattle.energy_search.specs.Search.{splitting, inside}
-use Rattle.energy_search.specs.declared.Within.{Within}
-use Rattle.energy_search.specs.declared.Within.TheVariants.{Pair, Nowhere}
+use Rattle.energy_search.specs.Search.{Places, splitting, inside}
 use Rattle.energy_search.proofs.Searching.{splitting_in, inside_in}
 use Rattle.energy_trace.specs.Choosing.{or_split, shorter, any_move, arms_move, or_arms, closed_move, move_of}
 use Rattle.energy_trace.specs.Trace.{Spot}
@@ -60,12 +57,12 @@ module _ {n lo hi : ℕ} {r : Move} (f : Falls n lo hi r) where
 module _ (n lo hi : ℕ) where
   -- a span of two or more bases, of either kind: `at` says that a job of that kind may stand on it
   module _ (job : Job) (at : (from to : ℕ) → from < to → to ≤ n → Spot job from to n) (h : lo + 1 < hi) (l : hi ≤ n) where
-    split_falls : (c : Table) (f : Found) → splitting c lo (hi - 1) ≡ f → Falls n lo hi (or_split job lo hi f)
-    split_falls c (At k) q =
+    split_falls : (c : Table) (f : Option ℕ) → splitting c lo (hi - 1) ≡ f → Falls n lo hi (or_split job lo hi f)
+    split_falls c (Some k) q =
         let s = splitting_in c lo (hi - 1) q in
         parts {job = job} {from = lo} {k = k + 1} {to = hi} (at lo (k + 1) (omega arith) (omega arith)) (at (k + 1) hi (omega arith) (omega arith))
         (omega arith) (omega arith)
-    split_falls c Nothing q = stops
+    split_falls c None q = stops
 
     shorter_falls : (c : Table) → Falls n lo hi (shorter job c lo hi)
     unfolding shorter
@@ -105,11 +102,11 @@ module _ (n lo hi : ℕ) where
 
 -- the inside of a pair
 module _ (b : Bases) (v m : Table) (n i j : ℕ) (l : j < n) where
-  inside_falls : may_close b i j ≡ true → (z : Within) → inside b v i j ≡ z → Falls n i j (or_arms v m i j z)
-  inside_falls g (Pair x y) q =
+  inside_falls : may_close b i j ≡ true → (z : Option Places) → inside b v i j ≡ z → Falls n i j (or_arms v m i j z)
+  inside_falls g (Some (x, y)) q =
       let s = inside_in b v i j q in
       closes {i = x} {j = y} s.1 (omega arith) (omega arith)
-  inside_falls g Nowhere q =
+  inside_falls g None q =
       let f = close_far b i j g in
       either (same (add_e (m (i + 1) (j - 1)) closing_charge) (v i j))
       (λ a. rw a (goes {job = Arms} {from = i + 1} {to = j} (omega arith, omega arith) (omega arith)))

@@ -15,8 +15,7 @@ use lib.ListN.{length}
 use Rattle.structure.specs.Table.{unpaired, view}
 use Rattle.tables.specs.Writing.{cleared, joined, Blank}
 use Rattle.tables.proofs.Written.{cleared_long, cleared_below, joined_long}
-use Rattle.searches.specs.declared.Found.{Found}
-use Rattle.searches.specs.declared.Found.TheVariants.{At, Nothing}
+use Rattle.std.proofs.Common.{Option, None, Some}
 use Rattle.searches.proofs.First.{Sought, hit, miss, sought}
 use Rattle.cells.specs.Rule.{Bases, Right}
 use Rattle.cells.specs.Fill.{at}
@@ -37,9 +36,7 @@ use Rattle.energy_rule.proofs.Laws.{Ruled, right_ruled, real_may, v_real, v_step
 use Rattle.energy_rule.proofs.Steps.{any_bare, any_skip, any_last, any_pair, any_split, arms_skip, arms_last, arms_helix, arms_split, blank_joined, pair_hairpin, pair_inner, pair_arms}
 use Rattle.energy_rule.proofs.Built.{any_exact}
 use Rattle.energy_reach.specs.Reach.{same, split_at, reaches}
-use Rattle.energy_search.specs.Search.{splitting, inner_row, inside}
-use Rattle.energy_search.specs.declared.Within.{Within}
-use Rattle.energy_search.specs.declared.Within.TheVariants.{Pair, Nowhere}
+use Rattle.energy_search.specs.Search.{Places, splitting, inner_row, inside}
 use Rattle.energy_search.proofs.Searching.{Scanned, hits, misses, scanned}
 use Rattle.energy_trace.specs.Choosing.{or_split, shorter, any_move, arms_move, or_arms, closed_move, move_of}
 use Rattle.energy_trace.specs.Trace.{act, trace_of, traced_of}
@@ -94,10 +91,10 @@ module _ (c : Table) (i j : ℕ) where
       same_no (add_e (c i x) (c (x + 1) j)) (c i j) e
       (ap (λ y. add_e (c i x) (c y j)) (add-one x) ∙ add_some (c i x) (c (suc x) j) k.left k.right ∙ sym k.value)
 
-  cut_taken : (job : Job) → c i j <ℤ mark → ((Cut c i j (c i j) → ⊥) → ⊥) → (z : Found) → Sought (split_at c i j) (i + 1) (j - (i + 1)) z
+  cut_taken : (job : Job) → c i j <ℤ mark → ((Cut c i j (c i j) → ⊥) → ⊥) → (z : Option ℕ) → Sought (split_at c i j) (i + 1) (j - (i + 1)) z
       → Shorter job c i j (or_split job i (suc j) z)
-  cut_taken job p must (At k) (hit a d e) = split_yes job k (omega arith) (omega arith) p e
-  cut_taken job p must Nothing (miss f) =
+  cut_taken job p must (Some k) (hit a d e) = split_yes job k (omega arith) (omega arith) p e
+  cut_taken job p must None (miss f) =
       absurd (must (λ k. let a = k.from in let d = k.to in split_no k (f k.at (omega arith) (omega arith))))
 
   -- where one of the three must reach the cell, the first that does is taken
@@ -193,17 +190,17 @@ module _ (b : Bases) (n : ℕ) (v w m : Table) (r : Ruled b n v w m) where
       ∙ sym k.value)
 
   -- the search along a row
-  abbrev Row : ℕ → ℕ → ℕ → Found → Type 0
+  abbrev Row : ℕ → ℕ → ℕ → Option ℕ → Type 0
   Row i j x = Sought (reaches b v i j x) (lowest j x) (j - lowest j x)
 
-  row_sought : (i j x : ℕ) {f : Found} → inner_row b v i j x ≡ f → Row i j x f
+  row_sought : (i j x : ℕ) {f : Option ℕ} → inner_row b v i j x ≡ f → Row i j x f
   unfolding inner_row
   row_sought i j x e = subst (Row i j x) e (sought (reaches b v i j x) (j - lowest j x) (lowest j x))
 
-  row_yes : (i j x y : ℕ) → i < x → x - suc i ≤ longest_side → v i j <ℤ mark → Row i j x (At y) → ClosedTaken i j (Close x y)
+  row_yes : (i j x y : ℕ) → i < x → x - suc i ≤ longest_side → v i j <ℤ mark → Row i j x (Some y) → ClosedTaken i j (Close x y)
   row_yes i j x y a s p (hit c d e) = let u = lowest_is j x in inner_yes i j x y a (omega arith) s (omega arith) p e
 
-  row_no : (i j : ℕ) (k : Inner b v i j (v i j)) → Row i j k.x Nothing → ⊥
+  row_no : (i j : ℕ) (k : Inner b v i j (v i j)) → Row i j k.x None → ⊥
   row_no i j k (miss f) =
       let u = lowest_is j k.x in
       let a = k.far in
@@ -211,10 +208,10 @@ module _ (b : Bases) (n : ℕ) (v w m : Table) (r : Ruled b n v w m) where
       let d = k.right in
       inner_no i j k (f k.y (omega arith) (omega arith))
 
-  arms_or : (i j : ℕ) → v i j <ℤ mark → ((Inner b v i j (v i j) → ⊥) → (v i j ≡ add_e (m (suc i) (j - 1)) closing_charge)) → (z : Within)
+  arms_or : (i j : ℕ) → v i j <ℤ mark → ((Inner b v i j (v i j) → ⊥) → (v i j ≡ add_e (m (suc i) (j - 1)) closing_charge)) → (z : Option Places)
       → Scanned (inner_row b v i j) (i + 1) (min (suc longest_side) (j - (i + 1))) z → ClosedTaken i j (or_arms v m i j z)
-  arms_or i j p must (Pair x y) (hits a c d) = row_yes i j x y (omega arith) (omega arith) p (row_sought i j x d)
-  arms_or i j p must Nowhere (misses f) =
+  arms_or i j p must (Some (x, y)) (hits a c d) = row_yes i j x y (omega arith) (omega arith) p (row_sought i j x d)
+  arms_or i j p must None (misses f) =
       let k : add_e (m (i + 1) (j - 1)) closing_charge ≡ add_e (m (suc i) (j - 1)) closing_charge = ap (λ x. add_e (m x (j - 1)) closing_charge) (add-one i) in
       let e = must (λ q.
       let a = q.from in

@@ -13,7 +13,7 @@ use lib.Signed.{lt_z}
 use Rattle.structure.specs.Table.{view}
 use Rattle.tables.specs.Writing.{cleared}
 use Rattle.tables.proofs.Agreeing.{Agree, agree_joined, agree_cleared}
-use Rattle.searches.specs.declared.Found.{Found}
+use Rattle.std.proofs.Common.{Option, None, Some}
 use Rattle.searches.proofs.First.{first_same}
 use Rattle.cells.specs.Rule.{Bases, SameBases}
 use Rattle.cells.specs.Fill.{at}
@@ -26,9 +26,7 @@ use Rattle.energy_rule.specs.Memory.{table, three}
 use Rattle.energy_rule.proofs.Parts.{lowest_is, may_far}
 use Rattle.energy_rule.proofs.Ruling.{may_local, own_local, hairpin_local}
 use Rattle.energy_reach.specs.Reach.{same, split_at, reaches}
-use Rattle.energy_search.specs.Search.{or_else, first_row, splitting, inner_row, inside}
-use Rattle.energy_search.specs.declared.Within.{Within}
-use Rattle.energy_search.specs.declared.Within.TheVariants.{Pair, Nowhere}
+use Rattle.energy_search.specs.Search.{Places, or_else, first_row, splitting, inner_row, inside}
 use Rattle.energy_trace.specs.Choosing.{or_split, shorter, any_move, arms_move, or_arms, closed_move, move_of}
 use Rattle.energy_trace.specs.Trace.{act, trace_of, traced_of, Spot}
 use Rattle.energy_trace.specs.declared.choice.Job.{Job}
@@ -38,7 +36,7 @@ use Rattle.energy_trace.specs.declared.choice.Move.TheVariants.{Stop, Go, Close,
 use Rattle.energy_trace.proofs.Moving.{Falls, stops, goes, closes, parts, move_falls}
 
 -- ---- searches
-rows_same : (row row' : ℕ → Found) (m k : ℕ) → ((x : ℕ) → k ≤ x → x < k + m → row x ≡ row' x) → first_row row k m ≡ first_row row' k m
+rows_same : (row row' : ℕ → Option ℕ) (m k : ℕ) → ((x : ℕ) → k ≤ x → x < k + m → row x ≡ row' x) → first_row row k m ≡ first_row row' k m
 unfolding first_row
 rows_same row row' zero k e = refl
 rows_same row row' (suc m) k e =
@@ -116,9 +114,9 @@ module _ (n : ℕ) where
           first_same (reaches b v i j x) (reaches b' v' i j x) (j - lowest j x) (lowest j x)
           (λ y s t. reaches_same x y (omega arith) (omega arith) (omega arith) (omega arith)))
 
-      or_same : i + 1 < j → (z : Within) → or_arms v m i j z ≡ or_arms v' m' i j z
-      or_same far (Pair x y) = refl
-      or_same far Nowhere =
+      or_same : i + 1 < j → (z : Option Places) → or_arms v m i j z ≡ or_arms v' m' i j z
+      or_same far (Some (x, y)) = refl
+      or_same far None =
           λ x.
           cond (same (add_e (em (i + 1) (j - 1) (omega arith) (omega arith) x) closing_charge) (ev i j (omega arith) h x)) (Go Arms (i + 1) j) Stop
 
