@@ -42,7 +42,7 @@ impl Triangle<'_> {
 
     // The cell (i, j) as the cell (k, l) of a table.
     #[tactic(auto, using(crate::proofs::Equal::same_bits))]
-    pub fn alike(&self, i: usize, j: usize, other: &Triangle, k: usize, l: usize) -> bool
+    pub fn alike(&self, i: usize, j: usize, other: &Self, k: usize, l: usize) -> bool
         requires { (i ≤ j) × (j < self.now.n) × (k ≤ l) × (l < other.now.n) }
         ensures { result ≡ same (table self.now.cells.now i j) (table other.now.cells.now k l) }
     {
