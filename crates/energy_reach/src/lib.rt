@@ -88,7 +88,8 @@ impl Tables<'_> {
     // i with j around arms.
     pub fn many(&self, i: usize, j: usize) -> bool
         requires { (i + 1 < j) × (j < self.now.paired.n) }
-        ensures { result ≡ same (add_e (table self.now.arms.cells.now (i + 1) (j - 1)) closing_charge) (table self.now.paired.cells.now i j) }
+        ensures { result ≡ same (add_e (table self.now.arms.cells.now (i + 1) (j - 1)) closing_charge)
+            (table self.now.paired.cells.now i j) }
     {
         ints::plus(self.arms.cell(i + 1, j - 1), CLOSING as i32) == self.paired.cell(i, j)
     }

@@ -1,5 +1,6 @@
 -- Answers as text: lists of ASCII codes. Assumes nothing: these are definitions.
-use Rattle.std.specs.Prelude.{◌≡◌, cond, List, [], ◌∷◌, ◌++◌, ℕ, zero, suc, ◌+◌, ◌/◌, ◌%◌, ltb, ℤ, pos, negsuc, nat_abs, Option, None, Some, length, take, drop}
+use Rattle.std.specs.Prelude.{◌≡◌, cond, List, [], ◌∷◌, ◌++◌, ℕ, zero, suc, ◌+◌, ◌/◌}
+use Rattle.std.specs.Prelude.{◌%◌, ltb, ℤ, pos, negsuc, nat_abs, Option, None, Some, length, take, drop}
 use Rattle.io.specs.Digits.{last_digits, hex_digit_ascii}
 use Rattle.refusals.specs.Refusals.{number, place}
 use Rattle.refusals.specs.declared.Refusal.{Refusal}

@@ -10,7 +10,8 @@ use lib.ListN.{length, drop, length-append}
 use lib.Seq.{sets, length-sets}
 use borrow.Author.Tests.{eq-eqb, ne_eqb}
 use Rattle.structure.specs.Table.{opens, opened}
-use Rattle.structure.proofs.Counts.{opens_le}
+use Rattle.structure.proofs.Counts.{opens_le, opened_le}
+use Rattle.structure.proofs.Checking.{table_clear}
 use Rattle.structure.proofs.Fronts.{front_more}
 use Rattle.queries.specs.Calls.{listed, listed_at}
 
@@ -56,3 +57,6 @@ listing_step p o₀ o o' n m i s r e w =
 
 pub listing_end : (p : ℕ → ℕ) (o₀ o : List ℕ) (n i : ℕ) → Listing p o₀ o n i → o ≡ listed p i ++ drop (2 * opened p i) o₀
 listing_end p o₀ o n i s = rw (← s.so_far) s.memory
+
+-- what the room for all pairs is judged by: there are no more pairs than positions, and a table that is due nothing is short enough
+pub ruleset room_laws = (opened_le, table_clear)

@@ -1,5 +1,6 @@
 -- What each public call answers and leaves in lent memory: o as it came, o' as it is left. Assumes nothing: these are definitions.
-use Rattle.std.specs.Prelude.{◌≡◌, Bool, true, false, cond, not, ◌&&◌, List, [], ◌∷◌, ◌++◌, ℕ, zero, suc, ◌*◌, ltb, eqb, length, drop, Option, None, Some, Result, Ok, Err}
+use Rattle.std.specs.Prelude.{◌≡◌, Bool, true, false, cond, not, ◌&&◌, List, [], ◌∷◌, ◌++◌, ℕ}
+use Rattle.std.specs.Prelude.{zero, suc, ◌*◌, ltb, eqb, length, drop, Option, None, Some, Result, Ok, Err}
 use Rattle.refusals.specs.Refusals.{clear, due_of}
 use Rattle.refusals.specs.declared.Refusal.{Refusal}
 use Rattle.structure.specs.Table.{unpaired, view, opens, pairs}

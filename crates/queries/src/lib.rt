@@ -75,7 +75,7 @@ pub fn partner(pairs: &[u16], i: usize) -> Result<Option<usize>, Refusal>
 }
 
 // Writes the pairs as i, j, i, j, .., i < j, by rising i. The number of pairs.
-#[tactic(auto, using(structure::proofs::Counts::opened_le, structure::proofs::Checking::table_clear), unfolding(structure::specs::Soundness::write_due))]
+#[tactic(auto, using(crate::proofs::Listing::room_laws), unfolding(structure::specs::Soundness::write_due))]
 pub fn base_pairs(pairs: &[u16], out: &mut [u16]) -> Result<usize, Refusal>
     ensures { Lists pairs.now out.old out.new result }
 {
