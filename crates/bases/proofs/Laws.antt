@@ -29,10 +29,6 @@ pub read_none : {r : Option Base} (x : ℕ) → told r ≡ reads x → r ≡ Non
 unfolding no_base
 read_none x h e = ap is_refused (sym h ∙ ap told e)
 
-pub read_nothing : {r : Option Base} (x : ℕ) → told r ≡ reads x → r ≡ None → normal x ≡ 0
-unfolding normal
-read_nothing x h e = ap letter_in (sym h ∙ ap told e)
-
 -- a byte is no base where none is read
 pub read_tests : (r : Option Base) (x : ℕ) → told r ≡ reads x → no_base x ≡ not (is_some r)
 unfolding no_base

@@ -77,14 +77,6 @@ module _ {A : Type 0} (rule : Rule A) (loc : Local rule) (Ok : Bases → ℕ →
   rows_next g₀ g g' j from m i p v n h l q put e r =
       rows_more g₀ g g' j from i v h l (subst (λ (x : ℕ). Put g g' x v) q put) e (subst (λ (x : ℕ). Rows rule Ok b g₀ g j from x) n r)
 
-  pub columns_none : (g : ℕ → A) (first top n : ℕ) → first ≤ n → FineElse (Ok b) (at g) first top n → Columns rule Ok b g g first top first
-  columns_none g first top n h f =
-      record {
-        kept = λ k p. refl;
-        fresh = λ i j p q u w. absurd (omega arith);
-        fine = λ i j p q. f i j p (omega arith) (λ x. absurd (omega arith));
-      }
-
   -- what the rows of the next column ask
   pub columns_fine :
       (g₀ g : ℕ → A) (first top n j from : ℕ) → first ≤ j → j < n → from ≡ min top j → FineElse (Ok b) (at g₀) first top n →

@@ -2,7 +2,6 @@
 use mathlib.Core.Path.{◌≡◌, refl, ◌∙◌, sym, ap, subst}
 use mathlib.Core.Bool.{Bool, true, false, ◌&&◌}
 use Prim.Native.Nat.{ℕ, zero, suc, ◌+◌, ◌-◌, ◌≤◌, ◌<◌}
-use native.Mathlib.Numerals.{add-one}
 use native.Mathlib.Omega.{arith}
 use lib.Dec.{T}
 use Rattle.cells.specs.Rule.{Bases, Cells, Rule, Local, Right}
@@ -47,11 +46,6 @@ pub obeys_right :
     T (obeys same rule b c n) → Right rule b c n
 obeys_right same sound rule b c n t i j h l =
     sound _ _ (every_at (λ i. same (c i j) (rule b c i j)) (suc j) (every_at _ n t j l) i (omega arith))
-
--- a loop that tests one after the other: one more passes, and one that fails settles it
-pub every_more : (f : ℕ → Bool) (i : ℕ) → every f i ≡ true → f i ≡ true → every f (i + 1) ≡ true
-unfolding every
-every_more f i e p = rw add-one (rw p e)
 
 pub every_stop : (f : ℕ → Bool) (n k : ℕ) → k < n → f k ≡ false → every f n ≡ false
 unfolding every

@@ -9,7 +9,7 @@ use native.Mathlib.Numerals.{add-one}
 use native.Mathlib.Decide.{ℕ_discrete}
 use lib.Dec.{ltb, eqb}
 use lib.ListN.{length}
-use borrow.Author.Tests.{le-ltb, ltb-false, eq-eqb, ne_eqb, eqb-true, not-false}
+use borrow.Author.Tests.{ltb-false, eq-eqb, ne_eqb, eqb-true, not-false}
 use Rattle.refusals.specs.Refusals.{clear, check, then, structure_limit}
 use Rattle.std.proofs.Common.{None}
 use Rattle.refusals.proofs.Laws.{check_clear, then_clear, neither}
@@ -62,12 +62,6 @@ module _ (p q : ℕ → ℕ) where
       }
 
 -- ---- what two tables are due
-
--- tables of one length that are short enough are due what the first is, and then what the second is
-pub both_rest : (s t : List ℕ) → length s ≤ structure_limit → length t ≤ structure_limit → length s ≡ length t
-    → both_due s t ≡ then (unsound_due s) (unsound_due t)
-unfolding both_due
-both_rest s t l m e = rw (le-ltb structure_limit (length s) l, le-ltb structure_limit (length t) m, eq-eqb (length s) (length t) e)
 
 -- tables that are due nothing are short enough, of one length, and sound
 pub both_clear : (s t : List ℕ) → both_due s t ≡ clear → (length s ≡ length t) × (length s ≤ structure_limit) × Sound s × Sound t

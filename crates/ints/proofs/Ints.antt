@@ -1,10 +1,9 @@
 -- Signed numbers: `omega ints` proves what is linear in them, by std's rules: orders, equations, sums, tests, ranges, and numbers read back from their bits.
 -- Beside these rules: a number read back from its bits that stands within a term, and the cases of a test.
 use mathlib.Core.Path.{◌≡◌, refl, ◌∙◌}
-use mathlib.Core.Bool.{Bool, true, false, not, cond}
+use mathlib.Core.Bool.{Bool, true, false}
 use Prim.Native.Nat.{ℕ, ◌+◌, ◌^◌, ◌<◌, ◌≤◌}
 use native.Mathlib.Omega.{arith}
-use lib.Dec.{T}
 use lib.IntN.{ℤ, neg_ℤ, ◌+ℤ◌, ◌-ℤ◌}
 use lib.Signed.{mag, lt_z, le_z}
 use mir.Syntax.{w32}
@@ -21,12 +20,6 @@ abbrev pub dn : ℤ → ℕ
 dn = std_parts.down
 
 pub ruleset ints = (arith, std.ints)
-
--- ---- tests
--- what holds of either choice holds of the one that a test makes
-pub cond_by : (t : Bool) (x y : ℤ) (P : ℤ → Type 0) → (T t → P x) → (T (not t) → P y) → P (cond t x y)
-cond_by true x y P f g = f tt
-cond_by false x y P f g = g tt
 
 -- a test is true or false
 pub either : {C : Type 0} (t : Bool) → (t ≡ true → C) → (t ≡ false → C) → C

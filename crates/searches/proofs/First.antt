@@ -19,9 +19,6 @@ module _ (test : ℕ → Bool) where
   unfolding first_passing
   first_more k e = rw e
 
-  pub first_end : (k j : ℕ) → j ≤ k → first_passing test k (j - k) ≡ None
-  first_end k j h = first_none k (omega arith)
-
   module _ (k j : ℕ) (h : k < j) {r : Bool} (e : r ≡ test k) where
     pub first_here : r ≡ true → first_passing test k (j - k) ≡ Some k
     first_here q = first_more k {l = j - (k + 1)} (omega arith) ∙ simp (← e, q)

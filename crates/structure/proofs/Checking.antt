@@ -229,10 +229,6 @@ module _ (t : List ℕ) (room need : ℕ) where
   unfolding write_due
   write_refused e = rw e
 
-  pub write_short : table_due t ≡ clear → room < need → write_due t room need ≡ refuse 4 None
-  unfolding write_due
-  write_short e h = rw (e, lt-ltb room need h)
-
   pub write_clear : table_due t ≡ clear → need ≤ room → write_due t room need ≡ clear
   unfolding write_due
   write_clear e h = rw (e, le-ltb room need h)
