@@ -10,7 +10,7 @@ use lib.IntN.{ℤ}
 use lib.ListN.{length}
 use borrow.Author.Tests.{ltb-false, le-ltb, eqb-false, ne_eqb}
 use Rattle.refusals.specs.Refusals.{clear, check, then, fold_limit}
-use Rattle.refusals.specs.declared.Place.TheVariants.{Nowhere}
+use Rattle.std.proofs.Common.{None}
 use Rattle.refusals.proofs.Laws.{check_clear, then_clear, neither}
 use Rattle.sequences.specs.Sequences.{bases_due}
 use Rattle.cells.specs.Tri.{tri}
@@ -35,17 +35,17 @@ foldable s b v w m o e =
     let n = length s in
     let long = ltb fold_limit n in
     let small = no_room b v w m o n in
-    let later = then (bases_due s) (check small 4 Nowhere) in
-    let c₁ = then_clear (check long 3 Nowhere) (then (check (eqb n 0) 1 Nowhere) later) e in
-    let c₂ = then_clear (check (eqb n 0) 1 Nowhere) later c₁.1 in
-    let c₃ = then_clear (bases_due s) (check small 4 Nowhere) c₂.1 in
-    let r₁ = neither (ltb (length b) n) (ltb (length v) (tri n) || (ltb (length w) (tri n) || (ltb (length m) (tri n) || ltb (length o) n))) (check_clear small 4 Nowhere c₃.1) in
+    let later = then (bases_due s) (check small 4 None) in
+    let c₁ = then_clear (check long 3 None) (then (check (eqb n 0) 1 None) later) e in
+    let c₂ = then_clear (check (eqb n 0) 1 None) later c₁.1 in
+    let c₃ = then_clear (bases_due s) (check small 4 None) c₂.1 in
+    let r₁ = neither (ltb (length b) n) (ltb (length v) (tri n) || (ltb (length w) (tri n) || (ltb (length m) (tri n) || ltb (length o) n))) (check_clear small 4 None c₃.1) in
     let r₂ = neither (ltb (length v) (tri n)) (ltb (length w) (tri n) || (ltb (length m) (tri n) || ltb (length o) n)) r₁.1 in
     let r₃ = neither (ltb (length w) (tri n)) (ltb (length m) (tri n) || ltb (length o) n) r₂.1 in
     let r₄ = neither (ltb (length m) (tri n)) (ltb (length o) n) r₃.1 in
-    let none : n ≢ 0 = eqb-false n 0 (check_clear (eqb n 0) 1 Nowhere c₂.0) in
+    let none : n ≢ 0 = eqb-false n 0 (check_clear (eqb n 0) 1 None c₂.0) in
     record {
-      short = ltb-false fold_limit n (check_clear long 3 Nowhere c₁.0);
+      short = ltb-false fold_limit n (check_clear long 3 None c₁.0);
       some = omega arith;
       each = c₃.0;
       bases = ltb-false (length b) n r₁.0;

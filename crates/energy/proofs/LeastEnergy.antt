@@ -27,13 +27,13 @@ use Rattle.energy_rule.proofs.Meaning as meaning
 use Rattle.energy_rule.proofs.Bounds as bounds
 use Rattle.energy_trace.specs.Trace.{traced_of}
 use Rattle.energy_trace.proofs.Whole.{Cheapest, traced_cheapest, cheapest_same}
-use Rattle.energy.specs.declared.Minimum.{Minimum}
-use Rattle.energy.specs.declared.Minimum.TheVariants.{Energy}
+use Rattle.std.proofs.Common.{Result, Ok}
+use Rattle.refusals.specs.declared.Refusal.{Refusal}
 use Rattle.energy.specs.Calls.{energy_at, Folds}
 use Rattle.energy.specs.Minimal.{Minimal}
 use Rattle.energy.proofs.Accepted.{foldable}
 
-module _ (s b b' : List ℕ) (v w m v' w' m' : List ℤ) (o o' : List ℕ) (z : ℤ) (f : Folds s b b' v w m v' w' m' o o' (Energy z)) where
+module _ (s b b' : List ℕ) (v w m v' w' m' : List ℤ) (o o' : List ℕ) (z : ℤ) (f : Folds s b b' v w m v' w' m' o o' (Ok z)) where
   -- the first bases are the letters of the sequence
   pub fold_letters : (k : ℕ) → k < length s → view b' k ≡ view (map normal s) k
   fold_letters k h = ap (λ (l : List ℕ). view l k) f.1.bases ∙ letters_front s b k h
@@ -84,9 +84,9 @@ module _ (s b b' : List ℕ) (v w m v' w' m' : List ℤ) (o o' : List ℕ) (z : 
 
 -- an energy that was answered may stand in sums: it is what its structure costs, and no structure of so few bases costs more
 pub energy_small :
-    (s b b' : List ℕ) (v w m v' w' m' : List ℤ) (o o' : List ℕ) (a : Minimum) (z : ℤ) → a ≡ Energy z → Folds s b b' v w m v' w' m' o o' a → Small z
+    (s b b' : List ℕ) (v w m v' w' m' : List ℤ) (o o' : List ℕ) (a : Result ℤ Refusal) (z : ℤ) → a ≡ Ok z → Folds s b b' v w m v' w' m' o o' a → Small z
 energy_small s b b' v w m v' w' m' o o' a z e h =
-    let f : Folds s b b' v w m v' w' m' o o' (Energy z) = subst (Folds s b b' v w m v' w' m' o o') e h in
+    let f : Folds s b b' v w m v' w' m' o o' (Ok z) = subst (Folds s b b' v w m v' w' m' o o') e h in
     let g = least_energy s b b' v w m v' w' m' o o' z f in
     let u = foldable s b v w m o f.0 in
     let letters = map normal s in

@@ -14,8 +14,8 @@ use Rattle.energy_rule.specs.Memory.{three}
 use Rattle.energy_rule.proofs.Ruling.{energies_local}
 use Rattle.energy_fill.specs.Filled.{Filled}
 use Rattle.energy_trace.specs.Trace.{traced_of}
-use Rattle.energy.specs.declared.Minimum.{Minimum}
-use Rattle.energy.specs.declared.Minimum.TheVariants.{Energy, Refused}
+use Rattle.std.proofs.Common.{Result, Ok, Err}
+use Rattle.refusals.specs.declared.Refusal.{Refusal}
 use Rattle.energy.specs.Calls.{energy_at, Made, Folds}
 
 one_filling :
@@ -40,14 +40,14 @@ one_making s b b' b'' v w m v' w' m' v'' w'' m'' o o' o'' f g =
     (e, d.0, d.1, d.2, f.pairs ∙ traced ∙ sym g.pairs)
 
 pub one_fold :
-    (s b b' b'' : List ℕ) (v w m v' w' m' v'' w'' m'' : List ℤ) (o o' o'' : List ℕ) (a a' : Minimum) →
+    (s b b' b'' : List ℕ) (v w m v' w' m' v'' w'' m'' : List ℤ) (o o' o'' : List ℕ) (a a' : Result ℤ Refusal) →
     Folds s b b' v w m v' w' m' o o' a → Folds s b b'' v w m v'' w'' m'' o o'' a' →
     (a ≡ a') × (b' ≡ b'') × (v' ≡ v'') × (w' ≡ w'') × (m' ≡ m'') × (o' ≡ o'')
-one_fold s b b' b'' v w m v' w' m' v'' w'' m'' o o' o'' (Energy z) (Energy z') f g =
+one_fold s b b' b'' v w m v' w' m' v'' w'' m'' o o' o'' (Ok z) (Ok z') f g =
     let e = one_making s b b' b'' v w m v' w' m' v'' w'' m'' o o' o'' f.1 g.1 in
     let same : z ≡ z' = f.2 ∙ ap (λ (l : List ℤ). energy_at l (length s)) e.2 ∙ sym g.2 in
-    (ap Energy same, e.0, e.1, e.2, e.3, e.4)
-one_fold s b b' b'' v w m v' w' m' v'' w'' m'' o o' o'' (Energy z) (Refused q) f g = absurd (one_of q f.0 g.0)
-one_fold s b b' b'' v w m v' w' m' v'' w'' m'' o o' o'' (Refused q) (Energy z) f g = absurd (one_of q g.0 f.0)
-one_fold s b b' b'' v w m v' w' m' v'' w'' m'' o o' o'' (Refused q) (Refused q') f g =
-    (ap Refused (one_refusal q q' f.0 g.0), f.1 ∙ sym g.1, f.2 ∙ sym g.2, f.3 ∙ sym g.3, f.4 ∙ sym g.4, f.5 ∙ sym g.5)
+    (ap Ok same, e.0, e.1, e.2, e.3, e.4)
+one_fold s b b' b'' v w m v' w' m' v'' w'' m'' o o' o'' (Ok z) (Err q) f g = absurd (one_of q f.0 g.0)
+one_fold s b b' b'' v w m v' w' m' v'' w'' m'' o o' o'' (Err q) (Ok z) f g = absurd (one_of q g.0 f.0)
+one_fold s b b' b'' v w m v' w' m' v'' w'' m'' o o' o'' (Err q) (Err q') f g =
+    (ap Err (one_refusal q q' f.0 g.0), f.1 ∙ sym g.1, f.2 ∙ sym g.2, f.3 ∙ sym g.3, f.4 ∙ sym g.4, f.5 ∙ sym g.5)

@@ -8,19 +8,13 @@ ghost use Rattle.cells.specs.Tri.{tri};
 ghost use Rattle.energy.specs.Checks.{fold_due};
 ghost use Rattle.energy.specs.Calls.{energy_at, Made, Folds};
 
-use figures::SIDES;
-use refusals::{Refusal, Verdict};
+use figures::SideCharges;
+use refusals::Refusal;
 
 mod checks;
 
-// The least energy in thousandths of kcal/mol, or the refusal.
-#[derive(Clone, Copy)]
-pub enum Minimum {
-    Energy(i32),
-    Refused(Refusal),
-}
-
-// The least energy that a structure of a sequence has, with its letters, its cells and a structure that has so little. Checks 3, 1, 2, 4.
+// The least energy in thousandths of kcal/mol that a structure of a sequence has,
+// with its letters, its cells and a structure that has so little. Checks 3, 1, 2, 4.
 pub fn zuker_mfe(
     seq: &[u8],
     bases: &mut [u8],
@@ -28,17 +22,15 @@ pub fn zuker_mfe(
     any: &mut [i32],
     arms: &mut [i32],
     pairs: &mut [u16],
-) -> Minimum
+) -> Result<i32, Refusal>
     ensures { Folds seq.now bases.old bases.new paired.old any.old arms.old paired.new any.new arms.new pairs.old pairs.new result }
 {
-    let verdict = checks::fold_checks(seq, bases, paired, any, arms, pairs);
-    if let Verdict::Refuse(refusal) = verdict {
-        return Minimum::Refused(refusal);
-    }
-    Minimum::Energy(fold(seq, bases, paired, any, arms, pairs))
+    checks::fold_checks(seq, bases, paired, any, arms, pairs)?;
+    Ok(fold(seq, bases, paired, any, arms, pairs))
 }
 
 // The fold itself, of what was found to be due nothing: letters, cells, pairs, and the energy.
+#[tactic(auto, using(crate::proofs::Accepted::foldable))]
 fn fold(
     seq: &[u8],
     bases: &mut [u8],
@@ -54,14 +46,14 @@ fn fold(
     let n = seq.len();
     sequences::keep(seq, bases);
     // Made once a fold, for the search reads it at every cell.
-    let mut sides = [0; SIDES];
-    figures::sides(&mut sides);
+    let sides = SideCharges::new();
     energy_fill::fill(bases, &sides, paired, any, arms, n);
     energy_trace::traceback(bases, paired, any, arms, n, pairs);
     energy(any, n)
 }
 
 // The energy of n bases: the cell of any structure of the whole span.
+#[tactic(auto, using(cells::proofs::Places::place_below), unfolding(crate::specs::Calls::energy_at))]
 fn energy(any: &[i32], n: usize) -> i32
     requires { (0 < n) × (n < 65536) × (tri n ≤ length any.now) }
     ensures { result ≡ energy_at any.now n }

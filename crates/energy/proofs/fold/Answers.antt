@@ -7,7 +7,6 @@ use lib.IntN.{ℤ}
 use lib.ListN.{length, drop}
 use Rattle.refusals.specs.Refusals.{clear}
 use Rattle.bases.specs.Bases.{normal}
-use Rattle.ints.proofs.Ints.{is}
 use Rattle.sequences.proofs.Spared.{letters_spared}
 use Rattle.energy_rule.specs.Memory.{Room}
 use Rattle.energy.specs.Checks.{fold_due}
@@ -20,11 +19,8 @@ space s b v w m o b' d e =
     let u = foldable s b v w m o d in
     room s b v w m o b' u (omega (arith, ap length e, (letters_spared s b u.bases).long, u.bases))
 
-pub keep-requires : goal.keep-requires
-keep-requires c = (foldable _ _ _ _ _ _ c.requires).bases
-
 pub fill-requires : goal.fill-requires
-fill-requires c = (space _ _ _ _ _ _ _ c.requires c.keep.ensures, c.sides.ensures)
+fill-requires c = space _ _ _ _ _ _ _ c.requires c.keep.ensures
 
 pub traceback-requires : goal.traceback-requires
 traceback-requires c =
@@ -43,14 +39,3 @@ traceback-requires c =
         fine = c.fill.ensures.fine;
       },
     )
-
-pub energy-requires : goal.energy-requires
-energy-requires c =
-    let u = foldable _ _ _ _ _ _ c.requires in
-    (u.some, omega (arith, u.short), omega (arith, u.any, c.fill.ensures.any))
-
-pub returns : goal.returns
-returns c = (
-  record { bases = c.keep.ensures; cells = c.fill.ensures; pairs = c.traceback.ensures },
-  is c.energy.result c.energy.type_inv c.energy.ensures,
-)
