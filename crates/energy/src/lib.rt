@@ -1,5 +1,5 @@
 // Least energy: the public fold, over memory that the caller lends.
-// The kept bases and the three tables stay with the caller.
+// The kept bases and the three tables stay with the caller, and are handed in apart, as C hands them in.
 #![tactic(auto)]
 
 ghost use Rattle.std.specs.Prelude.{◌≡◌, ◌<◌, ◌≤◌, length};
