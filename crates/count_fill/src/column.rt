@@ -59,16 +59,18 @@ fn raise(cells: &mut [u16], col: usize, to: usize, rows: usize, v: u16)
     cells::pass(cells, col, to, rows, larger);
 }
 
-// Every split of rows 0 to `from` of column j, from the last to the first: when (r, j) is final, it is taken into the rows before it.
+// Every split of rows 0 to `from` of column j, from the last to the first: when (k + 1, j) is final, it is taken into the rows before it.
 #[tactic(auto, using(cells::proofs::Places::tri_step))]
 fn settle(cells: &mut [u16], j: usize, to: usize, from: usize)
     requires { (to ≡ tri j) × (from ≤ j) × (j < 65535) × (tri (j + 1) ≤ length cells.old) × Fine AnyHalf (at (view cells.old)) (j + 1) }
     ensures { Settled max both AnyHalf (view cells.new) (view cells.old) (view cells.new) j from 0 }
 {
-    for r in (1..=j).rev() {
-        let v = cells[to + r];
-        let col = cells::place(0, r - 1);
-        raise(cells, col, to, r.min(from + 1), v);
+    // Carried from column to column: with `place` at each the compiler makes no wide loop of the passes.
+    let mut col = to;
+    for k in (0..j).rev() {
+        let v = cells[to + k + 1];
+        col -= k + 1;
+        raise(cells, col, to, (k + 1).min(from + 1), v);
     }
 }
 
