@@ -7,8 +7,6 @@ ghost use Rattle.io.specs.Counts.{IsPrefixLen};
 ghost use Rattle.refusals.specs.Refusals.{program_limit};
 ghost use Rattle.ints.specs.Ints.{Small};
 
-use counting::Counted;
-use energy::Minimum;
 use refusals::{PROGRAM_LIMIT, Refusal};
 use std::env::{Env, FillError};
 use std::io;
@@ -36,7 +34,8 @@ fn brackets(rt: &impl Print, pairs: &[u16]) -> io::Result<()>
 {
     let n = pairs.len();
     let mut text = [0u8; PROGRAM_LIMIT];
-    brackets::to_dot_bracket(pairs, &mut text);
+    // A fold's table is never refused.
+    let _ = brackets::to_dot_bracket(pairs, &mut text);
     rt.write_all(b" ")?;
     rt.write_all(&text[..n])?;
     rt.write_all(b"\n")
@@ -68,15 +67,14 @@ fn fold_pairs(rt: &impl Print, seq: &[u8]) -> io::Result<bool>
     let mut bases = [0u8; PROGRAM_LIMIT];
     let mut cells = [0u16; CELLS];
     let mut pairs = [0u16; PROGRAM_LIMIT];
-    let counted = counting::nussinov(seq, GAP, &mut bases, &mut cells, &mut pairs);
-    match counted {
-        Counted::Folded(_, count) => {
+    match counting::nussinov(seq, GAP, &mut bases, &mut cells, &mut pairs) {
+        Ok((_, count)) => {
             rt.write_all(&bases[..n])?;
             rt.write_all(b"\n")?;
             pairs_line(rt, count, &pairs[..n])?;
             Ok(true)
         }
-        Counted::Refused(refusal) => {
+        Err(refusal) => {
             refused(rt, refusal)?;
             Ok(false)
         }
@@ -102,8 +100,8 @@ fn fold_energy(rt: &impl Print, seq: &[u8]) -> io::Result<()>
         &mut pairs,
     );
     match minimum {
-        Minimum::Energy(z) => energy_line(rt, z, &pairs[..n]),
-        Minimum::Refused(refusal) => refused(rt, refusal),
+        Ok(z) => energy_line(rt, z, &pairs[..n]),
+        Err(refusal) => refused(rt, refusal),
     }
 }
 
