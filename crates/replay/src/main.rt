@@ -2,14 +2,11 @@
 // The list is data/answers.txt, which tests/oracle/make-answers makes.
 #![tactic(auto)]
 
-use counting::Counted;
-use energy::Minimum;
 use fields::Lines;
 use refusals::FOLD_LIMIT;
 use report::Tally;
 use std::fs::File;
 use std::io;
-use structure::Answer;
 
 mod report;
 
@@ -69,14 +66,14 @@ impl Room {
         let Some(gap) = fields::decimal(fields::field(line, 0)) else {
             return false;
         };
-        let answer = counting::nussinov(
+        let folded = counting::nussinov(
             fields::field(line, 1),
             gap,
             &mut self.bases,
             &mut self.cells,
             &mut self.pairs,
         );
-        let Counted::Folded(record, count) = answer else {
+        let Ok((record, count)) = folded else {
             return false;
         };
         count_agrees(count, fields::field(line, 2))
@@ -89,7 +86,7 @@ impl Room {
             return false;
         }
         let strand = fields::field(line, 1);
-        let answer = energy::zuker_mfe(
+        let least = energy::zuker_mfe(
             strand,
             &mut self.bases,
             &mut self.paired,
@@ -97,7 +94,7 @@ impl Room {
             &mut self.arms,
             &mut self.pairs,
         );
-        let Minimum::Energy(energy) = answer else {
+        let Ok(energy) = least else {
             return false;
         };
         let n = strand.len();
@@ -111,11 +108,10 @@ impl Room {
             return false;
         };
         let mut text = [0u8; FOLD_LIMIT];
-        let answer = brackets::to_dot_bracket(table, &mut text);
-        let Answer::Number(n) = answer else {
-            return false;
-        };
-        text.get(..n) == Some(field)
+        match brackets::to_dot_bracket(table, &mut text) {
+            Ok(n) => text.get(..n) == Some(field),
+            Err(_) => false,
+        }
     }
 }
 
