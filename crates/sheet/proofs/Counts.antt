@@ -4,6 +4,7 @@ use mathlib.Core.Path.{◌≡◌, sym, ap, ◌∙◌}
 use mathlib.Core.List.{List, map}
 use Prim.Native.Nat.{ℕ, ◌-◌, ◌≤◌, ◌<◌}
 use native.Mathlib.Omega.{arith}
+use Rattle.std.proofs.Common.{Ok, Err}
 use lib.Dec.{T, eqb, eqb→eq}
 use lib.ListN.{length, take}
 use lib.Seq.{ext_get_or, get_or-take, length-take-le}
@@ -22,7 +23,6 @@ use Rattle.count_rule.proofs.Laws.{nussinov_local}
 use Rattle.count_trace.specs.Trace.{traced_of}
 use Rattle.count_trace.proofs.Reached.{traced_long}
 use Rattle.count_trace.proofs.Same.{traced_same}
-use Rattle.counting.specs.declared.Counted.TheVariants.{Folded, Refused}
 use Rattle.counting.specs.Calls.{count_of}
 use Rattle.counting.proofs.Accepted.{accepted}
 use Rattle.counting.proofs.MostPairs.{fold_letters}
@@ -33,23 +33,26 @@ same_top : (t t' : List ℕ) (n : ℕ) → 0 < n → ((i j : ℕ) → i ≤ j �
 unfolding count_of
 same_top t t' n h cells = cells 0 (n - 1) (omega arith) (omega arith)
 
+-- lent memory of which each entry up to n is the table's starts with the table
+pub starts : (o p : List ℕ) (n : ℕ) → n ≤ length o → length p ≡ n → ((k : ℕ) → k < n → view o k ≡ view p k) → take n o ≡ p
+starts o p n room long same =
+    let front = length-take-le n o room in
+    ext_get_or 0 (take n o) p (front ∙ sym long) (λ k h. let l : k < n = omega (arith, front) in get_or-take n o k 0 l ∙ same k l)
+
 -- t is the certificate, p the pair table that its traceback writes
 pub counted :
     (s t p : List ℕ) (gap m : ℕ) (text : List ℕ) → 0 < length s → length s ≤ fold_limit → bases_due s ≡ clear → map normal s ≡ s →
     T (obeys eqb (nussinov gap) (view s) (at (view t)) (length s)) → count_of t (length s) ≡ m → length p ≡ length s →
     traced_of s t gap (length s) p ≡ p → brackets p ≡ text → Says (count s gap m text)
-counted s t p gap m text some short each own good reached long traced spelt b b' u u' o o' (Refused q) hb ht ho f =
+counted s t p gap m text some short each own good reached long traced spelt b b' u u' o o' (Err q) hb ht ho f =
     absurd (one_of q (accepted s b u o (record { short = short; some = some; each = each; bases = hb; cells = ht; pairs = ho })) f.0)
-counted s t p gap m text some short each own good reached long traced spelt b b' u u' o o' (Folded r v) hb ht ho f =
+counted s t p gap m text some short each own good reached long traced spelt b b' u u' o o' (Ok (r, v)) hb ht ho f =
     let n = length s in
     let bases : (k : ℕ) → k < n → view b' k ≡ view s k = λ k h. fold_letters s gap b b' u u' o o' r v f k h ∙ ap (λ (x : List ℕ). view x k) own in
     let cells = unique (nussinov gap) (nussinov_local gap) (view b') (view s) (at (view u')) (at (view t)) n bases f.2.cells.right
     (obeys_right eqb eqb→eq (nussinov gap) (view s) (at (view t)) n good) in
     let size = ap length f.2.pairs ∙ traced_long b' u' gap n o ho in
-    let all = length-take-le n o' (omega arith) in
-    let table : take n o' ≡ p = ext_get_or 0 (take n o') p (all ∙ sym long) (λ k h.
-    let l : k < n = omega arith in
-    get_or-take n o' k 0 l ∙ ap (λ (x : List ℕ). view x k) f.2.pairs ∙ traced_same b' s u' t gap n o p ho (omega arith) bases cells k l
-    ∙ ap (λ (x : List ℕ). view x k) traced) in
+    let table = starts o' p n (omega arith) long (λ k l. ap (λ (x : List ℕ). view x k) f.2.pairs
+    ∙ traced_same b' s u' t gap n o p ho (omega arith) bases cells k l ∙ ap (λ (x : List ℕ). view x k) traced) in
     let figure : v ≡ m = f.3 ∙ same_top u' t n some cells ∙ reached in
-    (λ i. Folded (f.1 i) (figure i), ap brackets table ∙ spelt)
+    (λ i. Ok (f.1 i, figure i), ap brackets table ∙ spelt)

@@ -1,14 +1,14 @@
 -- A line on an energy: three tables that obey the rule by a computed test are those that every fold of the sequence leaves, so their last cell is the
 -- answer's energy, and their traceback its structure. Assumes nothing.
-use mathlib.Core.Path.{◌≡◌, ap, sym, ◌∙◌}
+use mathlib.Core.Path.{◌≡◌, ap, ◌∙◌}
 use mathlib.Core.Bool.{Bool, ◌&&◌}
 use mathlib.Core.List.{List, map}
 use Prim.Native.Nat.{ℕ, ◌-◌, ◌≤◌, ◌<◌}
 use native.Mathlib.Omega.{arith}
+use Rattle.std.proofs.Common.{Ok, Err}
 use lib.Dec.{T}
 use lib.IntN.{ℤ}
-use lib.ListN.{length, take}
-use lib.Seq.{ext_get_or, get_or-take, length-take-le}
+use lib.ListN.{length}
 use Rattle.refusals.specs.Refusals.{clear, fold_limit}
 use Rattle.refusals.proofs.Laws.{one_of}
 use Rattle.bases.specs.Bases.{normal}
@@ -28,11 +28,11 @@ use Rattle.energy_trace.specs.Trace.{traced_of}
 use Rattle.energy_trace.proofs.Kept.{traced_long}
 use Rattle.energy_trace.proofs.Reached.{same_yes}
 use Rattle.energy_trace.proofs.Same.{traced_same}
-use Rattle.energy.specs.declared.Minimum.TheVariants.{Energy, Refused}
 use Rattle.energy.specs.Calls.{energy_at}
 use Rattle.energy.proofs.Accepted.{accepted}
 use Rattle.energy.proofs.LeastEnergy.{fold_letters}
 use Rattle.sheet.specs.Lines.{Says, energy}
+use Rattle.sheet.proofs.Counts.{starts}
 
 -- two cells are equal
 abbrev alike : Cell → Cell → Bool
@@ -54,22 +54,19 @@ pub settled :
     T (obeys alike energies (view s) (at (three v w m)) (length s)) → energy_at w (length s) ≡ z → length p ≡ length s →
     traced_of s v w m (length s) p ≡ p → brackets p ≡ text → Says (energy s z text)
 unfolding energy_at
-settled s v w m p z text some short each own good reached long traced spelt b b' v₀ w₀ m₀ v' w' m' o o' (Refused q) hb hv hw hm ho f =
+settled s v w m p z text some short each own good reached long traced spelt b b' v₀ w₀ m₀ v' w' m' o o' (Err q) hb hv hw hm ho f =
     absurd
     (one_of q
     (accepted s b v₀ w₀ m₀ o (record { short = short; some = some; each = each; bases = hb; paired = hv; any = hw; arms = hm; pairs = ho }))
     f.0)
-settled s v w m p z text some short each own good reached long traced spelt b b' v₀ w₀ m₀ v' w' m' o o' (Energy e) hb hv hw hm ho f =
+settled s v w m p z text some short each own good reached long traced spelt b b' v₀ w₀ m₀ v' w' m' o o' (Ok e) hb hv hw hm ho f =
     let n = length s in
     let bases : (k : ℕ) → k < n → view b' k ≡ view s k =
     λ k h. fold_letters s b b' v₀ w₀ m₀ v' w' m' o o' e f k h ∙ ap (λ (x : List ℕ). view x k) own in
     let cells = unique energies energies_local (view b') (view s) (at (three v' w' m')) (at (three v w m)) n bases f.1.cells.right
     (obeys_right alike alike_is energies (view s) (at (three v w m)) n good) in
     let size = ap length f.1.pairs ∙ traced_long b' v' w' m' n o some ho in
-    let all = length-take-le n o' (omega arith) in
-    let table : take n o' ≡ p = ext_get_or 0 (take n o') p (all ∙ sym long) (λ k h.
-    let l : k < n = omega arith in
-    get_or-take n o' k 0 l ∙ ap (λ (x : List ℕ). view x k) f.1.pairs
+    let table = starts o' p n (omega arith) long (λ k l. ap (λ (x : List ℕ). view x k) f.1.pairs
     ∙ traced_same b' s v' v w' w m' m n o p some ho (omega arith) bases cells k l ∙ ap (λ (x : List ℕ). view x k) traced) in
     let figure : e ≡ z = f.2 ∙ ap (λ (x : Cell). x.1) (cells 0 (n - 1) (omega arith) (omega arith)) ∙ reached in
-    (ap Energy figure, ap brackets table ∙ spelt)
+    (ap Ok figure, ap brackets table ∙ spelt)

@@ -4,13 +4,12 @@ use mathlib.Core.List.{List, [], ◌∷◌}
 use Prim.Native.Nat.{ℕ, ◌≤◌}
 use native.Mathlib.Omega.{arith}
 use lib.ListN.{length}
+use Rattle.std.proofs.Common.{Some, Ok, Err}
 use borrow.Author.Tests.{le-ltb}
 use lib.Dec.{lit<, lit≤}
 use Rattle.refusals.specs.Refusals.{clear, refuse, due_of}
-use Rattle.refusals.specs.declared.Place.TheVariants.{At}
 use Rattle.refusals.proofs.Laws.{one_of}
 use Rattle.bases.specs.Bases.{reads, no_base, normal, can_pair}
-use Rattle.structure.specs.declared.Answer.TheVariants.{Number, Refused}
 use Rattle.structure.specs.Table.{unpaired}
 use Rattle.brackets.specs.Brackets.{glyphs, brackets}
 use Rattle.brackets.specs.Text.{text_due, unmatched}
@@ -29,12 +28,12 @@ use Rattle.sheet.proofs.Counts.{counted}
 use Rattle.sheet.proofs.Vectors.{seven, nine, ten, twenty_one, charged_so}
 
 accepted : (s : List ℕ) → ((room : ℕ) → length s ≤ room → text_due s room ≡ clear) → Says (text_accepted s)
-accepted s due o o' (Number n) room p = ap Number p.1
-accepted s due o o' (Refused q) room p = absurd (one_of q (due (length o) room) p.0)
+accepted s due o o' (Ok n) room p = ap Ok p.1
+accepted s due o o' (Err q) room p = absurd (one_of q (due (length o) room) p.0)
 
-denied : (s : List ℕ) (num k : ℕ) → ((room : ℕ) → text_due s room ≡ refuse num (At k)) → Says (text_refused s num k)
-denied s num k due o o' (Number n) p = let e = sym p.0 ∙ due (length o) in let z : ◌≡◌ {A = ℕ} 0 1 = cc in absurd (omega arith)
-denied s num k due o o' (Refused q) p = let e : due_of q ≡ refuse num (At k) = sym p.0 ∙ due (length o) in (q, refl, cc, cc)
+denied : (s : List ℕ) (num k : ℕ) → ((room : ℕ) → text_due s room ≡ refuse num (Some k)) → Says (text_refused s num k)
+denied s num k due o o' (Ok n) p = let e = sym p.0 ∙ due (length o) in let z : ◌≡◌ {A = ℕ} 0 1 = cc in absurd (omega arith)
+denied s num k due o o' (Err q) p = let e : due_of q ≡ refuse num (Some k) = sym p.0 ∙ due (length o) in (q, refl, cc, cc)
 
 -- the certificate of GGGGCCCC, and its pair table
 eight : List ℕ

@@ -1,21 +1,15 @@
 -- The lines of the bench sheet that are proved: one table, of everything that a public call's contract permits.
 -- Assumes nothing: these are definitions.
-use Rattle.std.specs.Prelude.{◌≡◌, List, [], ◌∷◌, ℕ, ◌≤◌, ℤ, pos, neg_ℤ, length, take}
+use Rattle.std.specs.Prelude.{◌≡◌, List, [], ◌∷◌, ℕ, ◌≤◌, ℤ, pos, neg_ℤ, length, take, Some, Result, Ok, Err}
 use Rattle.refusals.specs.Refusals.{number, place}
 use Rattle.refusals.specs.declared.Refusal.{Refusal}
-use Rattle.refusals.specs.declared.Place.TheVariants.{At}
-use Rattle.structure.specs.declared.Answer.{Answer}
-use Rattle.structure.specs.declared.Answer.TheVariants.{Number, Refused}
 use Rattle.structure.specs.Table.{unpaired}
 use Rattle.brackets.specs.Brackets.{brackets}
 use Rattle.brackets.specs.Calls.{Parses}
 use Rattle.cells.specs.Tri.{tri}
-use Rattle.counting.specs.declared.Counted.{Counted}
-use Rattle.counting.specs.declared.Counted.TheVariants.{Folded}
+use Rattle.counting.specs.declared.Record.{Record}
 use Rattle.counting.specs.Calls.{record_of, Folds}
 use Rattle.charges.specs.Loops.{energy_of}
-use Rattle.energy.specs.declared.Minimum.{Minimum}
-use Rattle.energy.specs.declared.Minimum.TheVariants.{Energy}
 use Rattle.energy.specs.Calls.{Folds as EnergyFolds}
 
 -- a line: a call's input, and what it comes to; of a charge, the bases and the pair table, its text and its energy
@@ -28,17 +22,17 @@ pub data Line : Type 0 where
 
 -- what a line says of every answer that the contract permits, whatever memory with room is lent
 abbrev pub Says : Line → Type 0
-Says (text_accepted s) = (o o' : List ℕ) (a : Answer) → length s ≤ length o → Parses s o o' a → a ≡ Number (length s)
+Says (text_accepted s) = (o o' : List ℕ) (a : Result ℕ Refusal) → length s ≤ length o → Parses s o o' a → a ≡ Ok (length s)
 Says (text_refused s num k) =
-    (o o' : List ℕ) (a : Answer) → Parses s o o' a → (q : Refusal) × (a ≡ Refused q) × (number q ≡ num) × (place q ≡ At k)
+    (o o' : List ℕ) (a : Result ℕ Refusal) → Parses s o o' a → (q : Refusal) × (a ≡ Err q) × (number q ≡ num) × (place q ≡ Some k)
 Says (count s gap m text) =
-    (b b' t t' o o' : List ℕ) (a : Counted) →
+    (b b' t t' o o' : List ℕ) (a : Result (Record × ℕ) Refusal) →
     length s ≤ length b → tri (length s) ≤ length t → length s ≤ length o → Folds s gap b b' t t' o o' a →
-    (a ≡ Folded (record_of (length s) gap) m) × (brackets (take (length s) o') ≡ text)
+    (a ≡ Ok (record_of (length s) gap, m)) × (brackets (take (length s) o') ≡ text)
 Says (energy s z text) =
-    (b b' : List ℕ) (v w m v' w' m' : List ℤ) (o o' : List ℕ) (a : Minimum) →
+    (b b' : List ℕ) (v w m v' w' m' : List ℤ) (o o' : List ℕ) (a : Result ℤ Refusal) →
     length s ≤ length b → tri (length s) ≤ length v → tri (length s) ≤ length w → tri (length s) ≤ length m → length s ≤ length o →
-    EnergyFolds s b b' v w m v' w' m' o o' a → (a ≡ Energy z) × (brackets (take (length s) o') ≡ text)
+    EnergyFolds s b b' v w m v' w' m' o o' a → (a ≡ Ok z) × (brackets (take (length s) o') ≡ text)
 Says (charged s p text z) = (brackets p ≡ text) × (energy_of s p ≡ z)
 
 -- the table

@@ -2,84 +2,36 @@
 // The lines that are marked as proved are also the table of specs/Lines.antt, proved in proofs/Table.antt.
 #![tactic(auto)]
 
-ghost use Rattle.ints.specs.Ints.{Small};
-
-use count_edits::Edited;
-use counting::{Counted, Record};
-use energy::Minimum;
-use refusals::{Place, Refusal};
+use counting::Record;
+use refusals::Refusal;
+use std::fmt::Display;
 use std::io;
-use structure::Answer;
-
-fn is(rt: &impl Print, n: usize) -> io::Result<()> {
-    print!(rt; " is {n}")
-}
 
 fn refused(rt: &impl Print, refusal: Refusal) -> io::Result<()> {
-    let number = refusals::number_of(refusal);
-    print!(rt; " refused {number}")?;
-    let place = refusals::place_of(refusal);
-    if let Place::At(k) = place {
+    print!(rt; " refused {}", refusal.number())?;
+    if let Some(k) = refusal.place() {
         print!(rt; " at {k}")?;
     }
     Ok(())
 }
 
-fn tell(rt: &impl Print, answer: Answer) -> io::Result<()> {
+// What a call answers: a number, or a refusal.
+fn tell<T: Display + Drop>(rt: &impl Print, answer: Result<T, Refusal>) -> io::Result<()> {
     match answer {
-        Answer::Number(n) => is(rt, n)?,
-        Answer::Refused(refusal) => refused(rt, refusal)?,
+        Ok(n) => print!(rt; " is {n}"),
+        Err(refusal) => refused(rt, refusal),
     }
+}
+
+fn tell_line(rt: &impl Print, answer: Result<usize, Refusal>) -> io::Result<()> {
+    tell(rt, answer)?;
     println!(rt;)
-}
-
-fn tell_count(rt: &impl Print, counted: Counted) -> io::Result<()> {
-    match counted {
-        Counted::Folded(_, m) => is(rt, m),
-        Counted::Refused(refusal) => refused(rt, refusal),
-    }
-}
-
-fn tell_edit(rt: &impl Print, edited: Edited) -> io::Result<()> {
-    match edited {
-        Edited::Done(_, m) => is(rt, m),
-        Edited::Refused(refusal, _) => refused(rt, refusal),
-    }
-}
-
-// In thousandths, with its sign.
-fn signed(rt: &impl Print, z: i32) -> io::Result<()>
-    requires { Small z }
-{
-    if z < 0 {
-        print!(rt; "-")?;
-    }
-    rt.print(ints::magnitude(z))
-}
-
-fn is_energy(rt: &impl Print, z: i32) -> io::Result<()> {
-    print!(rt; " is ")?;
-    // Never so after a fold: a test is shorter than the proof of that.
-    if z < -1_000_000_000 {
-        return Ok(());
-    }
-    if 1_000_000_000 < z {
-        return Ok(());
-    }
-    signed(rt, z)
-}
-
-fn tell_energy(rt: &impl Print, found: Minimum) -> io::Result<()> {
-    match found {
-        Minimum::Energy(z) => is_energy(rt, z),
-        Minimum::Refused(refusal) => refused(rt, refusal),
-    }
 }
 
 fn text(rt: &impl Print, s: &[u8], pairs: &mut [u16]) -> io::Result<()> {
     print!(rt; "text ")?;
     rt.write_all(s)?;
-    tell(rt, brackets::from_dot_bracket(s, pairs))
+    tell_line(rt, brackets::from_dot_bracket(s, pairs))
 }
 
 fn texts(rt: &impl Print) -> io::Result<()> {
@@ -96,21 +48,19 @@ fn distances(rt: &impl Print) -> io::Result<()> {
     text(rt, b"(((...)))", &mut a)?;
     text(rt, b"((...))..", &mut b)?;
     print!(rt; "base pair distance")?;
-    tell(rt, distances::base_pair_distance(&a, &b))?;
+    tell_line(rt, distances::base_pair_distance(&a, &b))?;
     print!(rt; "mountain distance")?;
-    tell(rt, distances::mountain_distance(&a, &b))
+    tell_line(rt, distances::mountain_distance(&a, &b))
 }
 
 // The brackets of the first n positions.
 fn brackets(rt: &impl Print, pairs: &[u16], n: usize) -> io::Result<()> {
     let mut text = [0u8; 32];
-    if pairs.len() < n {
+    // Never so here: a test is shorter than the proof of that. Nor is the table of a fold refused.
+    if pairs.len() < n || text.len() < n {
         return Ok(());
     }
-    if 32 < n {
-        return Ok(());
-    }
-    brackets::to_dot_bracket(&pairs[..n], &mut text);
+    let _ = brackets::to_dot_bracket(&pairs[..n], &mut text);
     print!(rt; " ")?;
     rt.write_all(&text[..n])
 }
@@ -122,10 +72,8 @@ fn count(rt: &impl Print, seq: &[u8], gap: usize) -> io::Result<()> {
     print!(rt; "count ")?;
     rt.write_all(seq)?;
     print!(rt; " gap {gap}")?;
-    tell_count(
-        rt,
-        counting::nussinov(seq, gap, &mut bases, &mut cells, &mut pairs),
-    )?;
+    let folded = counting::nussinov(seq, gap, &mut bases, &mut cells, &mut pairs);
+    tell(rt, folded.map(|(_, m)| m))?;
     brackets(rt, &pairs, seq.len())?;
     println!(rt;)
 }
@@ -141,23 +89,20 @@ fn strands(rt: &impl Print) -> io::Result<()> {
     count(rt, b"gcGCtAta", 0)
 }
 
+// The least energy of a strand, in memory for 257 bases.
+fn least_energy(seq: &[u8], pairs: &mut [u16]) -> Result<i32, Refusal> {
+    let mut bases = [0u8; 257];
+    let mut paired = [0; 33153];
+    let mut any = [0; 33153];
+    let mut arms = [0; 33153];
+    energy::zuker_mfe(seq, &mut bases, &mut paired, &mut any, &mut arms, pairs)
+}
+
 fn energy(rt: &impl Print, seq: &[u8]) -> io::Result<()> {
-    let mut bases = [0u8; 32];
-    let mut paired = [0; 528];
-    let mut any = [0; 528];
-    let mut arms = [0; 528];
     let mut pairs = [0u16; 32];
     print!(rt; "energy ")?;
     rt.write_all(seq)?;
-    let minimum = energy::zuker_mfe(
-        seq,
-        &mut bases,
-        &mut paired,
-        &mut any,
-        &mut arms,
-        &mut pairs,
-    );
-    tell_energy(rt, minimum)?;
+    tell(rt, least_energy(seq, &mut pairs))?;
     brackets(rt, &pairs, seq.len())?;
     println!(rt;)
 }
@@ -176,42 +121,28 @@ fn least_energies(rt: &impl Print) -> io::Result<()> {
 fn traced(rt: &impl Print, held: Record, bases: &[u8], cells: &[u16]) -> io::Result<()> {
     let mut pairs = [0u16; 16];
     let n = held.length;
-    count_edits::traceback(held, bases, cells, &mut pairs);
+    let _ = count_edits::traceback(held, bases, cells, &mut pairs);
     brackets(rt, &pairs, n)?;
     println!(rt;)
 }
 
-fn add(
+// What an edit answers, and the record after it.
+fn edited(
     rt: &impl Print,
-    held: Record,
-    bases: &mut [u8],
-    cells: &mut [u16],
-    byte: u8,
-) -> io::Result<()> {
-    let edited = count_edits::add(held, bases, cells, byte);
-    tell_edit(rt, edited)?;
-    if let Edited::Done(after, _) = edited {
-        traced(rt, after, bases, cells)?;
-    }
-    Ok(())
-}
-
-fn replace(
-    rt: &impl Print,
-    held: Record,
-    bases: &mut [u8],
-    cells: &mut [u16],
-    position: usize,
-    byte: u8,
+    answer: Result<(Record, usize), (Refusal, Record)>,
+    bases: &[u8],
+    cells: &[u16],
 ) -> io::Result<Record> {
-    let edited = count_edits::replace(held, bases, cells, position, byte);
-    tell_edit(rt, edited)?;
-    match edited {
-        Edited::Done(after, _) => {
+    match answer {
+        Ok((after, m)) => {
+            print!(rt; " is {m}")?;
             traced(rt, after, bases, cells)?;
             Ok(after)
         }
-        Edited::Refused(_, kept) => Ok(kept),
+        Err((refusal, kept)) => {
+            refused(rt, refusal)?;
+            Ok(kept)
+        }
     }
 }
 
@@ -219,80 +150,60 @@ fn edits(rt: &impl Print) -> io::Result<()> {
     let mut bases = [0u8; 16];
     let mut cells = [0u16; 136];
     let mut pairs = [0u16; 16];
-    let folded = counting::nussinov(b"GGGAAACCC", 3, &mut bases, &mut cells, &mut pairs);
-    let Counted::Folded(fresh, _) = folded else {
+    let Ok((fresh, _)) = counting::nussinov(b"GGGAAACCC", 3, &mut bases, &mut cells, &mut pairs)
+    else {
         return Ok(());
     };
     print!(rt; "GGGAAACCC, place 8 becomes A")?;
-    let held = replace(rt, fresh, &mut bases, &mut cells, 8, b'A')?;
+    let replaced = count_edits::replace(fresh, &mut bases, &mut cells, 8, b'A');
+    let held = edited(rt, replaced, &bases, &cells)?;
     print!(rt; "then C is added")?;
-    add(rt, held, &mut bases, &mut cells, b'C')
+    let added = count_edits::add(held, &mut bases, &mut cells, b'C');
+    edited(rt, added, &bases, &cells)?;
+    Ok(())
 }
 
 fn fold_limits(rt: &impl Print) -> io::Result<()> {
-    let strand = [71u8; 257];
+    let strand = [b'G'; 257];
     let mut bases = [0u8; 257];
     let mut cells = [0u16; 33153];
     let mut pairs = [0u16; 257];
     print!(rt; "256 bases")?;
     let folded = counting::nussinov(&strand[..256], 3, &mut bases, &mut cells, &mut pairs);
-    tell_count(rt, folded)?;
+    tell(rt, folded.map(|(_, m)| m))?;
     print!(rt; "\n257 bases")?;
-    tell_count(
-        rt,
-        counting::nussinov(&strand, 3, &mut bases, &mut cells, &mut pairs),
-    )?;
-    println!(rt;)?;
-    if let Counted::Folded(held, _) = folded {
+    let longer = counting::nussinov(&strand, 3, &mut bases, &mut cells, &mut pairs);
+    tell_line(rt, longer.map(|(_, m)| m))?;
+    if let Ok((held, _)) = folded {
         print!(rt; "add at 256 bases")?;
-        tell_edit(rt, count_edits::add(held, &mut bases, &mut cells, b'G'))?;
-        println!(rt;)?;
+        let added = count_edits::add(held, &mut bases, &mut cells, b'G');
+        tell_line(rt, added.map(|(_, m)| m).map_err(|(refusal, _)| refusal))?;
     }
     Ok(())
 }
 
 fn energy_limits(rt: &impl Print) -> io::Result<()> {
-    let strand = [71u8; 257];
-    let mut bases = [0u8; 257];
-    let mut paired = [0; 33153];
-    let mut any = [0; 33153];
-    let mut arms = [0; 33153];
+    let strand = [b'G'; 257];
     let mut pairs = [0u16; 257];
     print!(rt; "energy of 256 bases")?;
-    let longest = energy::zuker_mfe(
-        &strand[..256],
-        &mut bases,
-        &mut paired,
-        &mut any,
-        &mut arms,
-        &mut pairs,
-    );
-    tell_energy(rt, longest)?;
+    tell(rt, least_energy(&strand[..256], &mut pairs))?;
     print!(rt; "\nenergy of 257 bases")?;
-    let longer = energy::zuker_mfe(
-        &strand,
-        &mut bases,
-        &mut paired,
-        &mut any,
-        &mut arms,
-        &mut pairs,
-    );
-    tell_energy(rt, longer)?;
+    tell(rt, least_energy(&strand, &mut pairs))?;
     println!(rt;)
 }
 
 fn limits(rt: &impl Print) -> io::Result<()> {
-    let dots = [46u8; 4097];
+    let dots = [b'.'; 4097];
     let mut pairs = [0u16; 4097];
     print!(rt; "4096 positions of text")?;
-    tell(rt, brackets::from_dot_bracket(&dots[..4096], &mut pairs))?;
+    tell_line(rt, brackets::from_dot_bracket(&dots[..4096], &mut pairs))?;
     print!(rt; "4097 positions of text")?;
-    tell(rt, brackets::from_dot_bracket(&dots, &mut pairs))?;
+    tell_line(rt, brackets::from_dot_bracket(&dots, &mut pairs))?;
     let table = [65535u16; 4097];
     print!(rt; "4096 positions of a table")?;
-    tell(rt, queries::num_pairs(&table[..4096]))?;
+    tell_line(rt, queries::num_pairs(&table[..4096]))?;
     print!(rt; "4097 positions of a table")?;
-    tell(rt, queries::num_pairs(&table))
+    tell_line(rt, queries::num_pairs(&table))
 }
 
 fn main(rt: HostRuntime) -> io::Result<()> {
