@@ -14,8 +14,6 @@ use Rattle.std.proofs.Common.{None}
 use Rattle.refusals.proofs.Laws.{check_clear, then_clear, neither}
 use Rattle.sequences.specs.Sequences.{bases_due}
 use Rattle.cells.specs.Tri.{tri}
-use Rattle.figures.proofs.Charges.{fold_reach}
-use Rattle.energy_rule.specs.Memory.{Room}
 use Rattle.energy.specs.Checks.{no_room, fold_due}
 
 -- a sequence that is folded: some bases and not too many, each of them one, with room for what is written
@@ -69,7 +67,3 @@ accepted s b v w m o f =
       le-ltb (length m) (tri (length s)) f.arms,
       le-ltb (length o) (length s) f.pairs,
     )
-
--- bases of the same number with that much memory have room to be folded in
-pub room : (s b : List ℕ) (v w m : List ℤ) (o b' : List ℕ) → Foldable s b v w m o → length s ≤ length b' → Room b' v w m (length s)
-room s b v w m o b' f h = record { short = omega (arith, f.short, fold_reach); bases = h; paired = f.paired; any = f.any; arms = f.arms }

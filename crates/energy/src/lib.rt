@@ -3,18 +3,17 @@
 #![tactic(auto)]
 
 ghost use Rattle.std.specs.Prelude.{◌≡◌, ◌<◌, ◌≤◌, length};
-ghost use Rattle.refusals.specs.Refusals.{clear};
 ghost use Rattle.cells.specs.Tri.{tri};
-ghost use Rattle.energy.specs.Checks.{fold_due};
-ghost use Rattle.energy.specs.Calls.{energy_at, Made, Folds};
+ghost use Rattle.energy.specs.Calls.{energy_at, Folds};
 
 use figures::SideCharges;
-use refusals::Refusal;
-
-mod checks;
+use refusals::{FOLD_LIMIT, Refusal};
 
 // The least energy in thousandths of kcal/mol that a structure of a sequence has,
 // with its letters, its cells and a structure that has so little. Checks 3, 1, 2, 4.
+// The lent buffers stand apart, as `ykm_zuker_mfe` takes them: in a struct of several `&mut`, a call that lends two of them
+// at once has no rule of the borrow checker.
+#[tactic(auto, unfolding(crate::specs::Checks::fold_due))]
 pub fn zuker_mfe(
     seq: &[u8],
     bases: &mut [u8],
@@ -25,31 +24,29 @@ pub fn zuker_mfe(
 ) -> Result<i32, Refusal>
     ensures { Folds seq.now bases.old bases.new paired.old any.old arms.old paired.new any.new arms.new pairs.old pairs.new result }
 {
-    checks::fold_checks(seq, bases, paired, any, arms, pairs)?;
-    Ok(fold(seq, bases, paired, any, arms, pairs))
-}
-
-// The fold itself, of what was found to be due nothing: letters, cells, pairs, and the energy.
-#[tactic(auto, using(crate::proofs::Accepted::foldable))]
-fn fold(
-    seq: &[u8],
-    bases: &mut [u8],
-    paired: &mut [i32],
-    any: &mut [i32],
-    arms: &mut [i32],
-    pairs: &mut [u16],
-) -> i32
-    requires { fold_due seq.now bases.old paired.old any.old arms.old pairs.old ≡ clear }
-    ensures { Made seq.now bases.old bases.new paired.old any.old arms.old paired.new any.new arms.new pairs.old pairs.new
-        × (result ≡ energy_at any.new (length seq.now)) }
-{
     let n = seq.len();
+    if FOLD_LIMIT < n {
+        return Err(Refusal::TooLong);
+    }
+    if n == 0 {
+        return Err(Refusal::Empty);
+    }
+    sequences::first_no_base(seq)?;
+    let cells = cells::place(0, n);
+    if bases.len() < n
+        || paired.len() < cells
+        || any.len() < cells
+        || arms.len() < cells
+        || pairs.len() < n
+    {
+        return Err(Refusal::TooShort);
+    }
     sequences::keep(seq, bases);
     // Made once a fold, for the search reads it at every cell.
     let sides = SideCharges::new();
     energy_fill::fill(bases, &sides, paired, any, arms, n);
     energy_trace::traceback(bases, paired, any, arms, n, pairs);
-    energy(any, n)
+    Ok(energy(any, n))
 }
 
 // The energy of n bases: the cell of any structure of the whole span.
