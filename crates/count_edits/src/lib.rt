@@ -122,7 +122,7 @@ fn erased(held: Record, bases: &[u8], cells: &[u16]) -> Result<(Record, usize), 
     ))
 }
 
-// The structure that the kept bases and cells lead to: the number of its pairs. Checks 11, 4, 11, 4.
+// The structure that the kept bases and cells lead to, and the count: the cell of the whole span. Checks 11, 4, 11, 4.
 #[tactic(auto, unfolding(crate::specs::Checks::trace_due))]
 pub fn traceback(
     held: Record,

@@ -6,13 +6,11 @@ ghost use Rattle.std.specs.Prelude.{◌≡◌, ◌<◌, ◌≤◌, length};
 ghost use Rattle.cells.specs.Tri.{tri};
 ghost use Rattle.energy.specs.Calls.{energy_at, Folds};
 
-use figures::SideCharges;
+use figures::{SIDES, SideCharges};
 use refusals::{FOLD_LIMIT, Refusal};
 
 // The least energy in thousandths of kcal/mol that a structure of a sequence has,
 // with its letters, its cells and a structure that has so little. Checks 3, 1, 2, 4.
-// The lent buffers stand apart, as `ykm_zuker_mfe` takes them: in a struct of several `&mut`, a call that lends two of them
-// at once has no rule of the borrow checker.
 #[tactic(auto, unfolding(crate::specs::Checks::fold_due))]
 pub fn zuker_mfe(
     seq: &[u8],
@@ -43,7 +41,9 @@ pub fn zuker_mfe(
     }
     sequences::keep(seq, bases);
     // Made once a fold, for the search reads it at every cell.
-    let sides = SideCharges::new();
+    let mut charges = [0; SIDES];
+    figures::sides(&mut charges);
+    let sides = SideCharges { charges: &charges };
     energy_fill::fill(bases, &sides, paired, any, arms, n);
     energy_trace::traceback(bases, paired, any, arms, n, pairs);
     Ok(energy(any, n))

@@ -1,5 +1,5 @@
 // One column of the three tables, rewritten by the rule in passes over contiguous cells.
-ghost use Rattle.std.specs.Prelude.{◌≡◌, ◌+◌, ◌-◌, ◌≤◌, ◌<◌, length, set};
+ghost use Rattle.std.specs.Prelude.{◌≡◌, ◌+◌, ◌≤◌, ◌<◌, length};
 ghost use Rattle.structure.specs.Table.{view};
 ghost use Rattle.cells.specs.Tri.{tri};
 ghost use Rattle.cells.specs.Fill.{at, Fine, FineFrom, Rows};

@@ -15,7 +15,7 @@ use figures::SideCharges;
 mod column;
 
 // Rewrites the columns from `first` to before `n`, each from row `top` or its last to row 0.
-// The tables stand apart: in a struct of the three `&mut`, a call that lends two of them at once has no rule of the borrow checker.
+// The tables stand apart: of a struct whose fields are `&mut`, the borrow checker has no rule for a call that lends two at once.
 pub fn columns(
     bases: &[u8],
     sides: &SideCharges,

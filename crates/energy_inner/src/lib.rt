@@ -27,6 +27,7 @@ fn run(paired: &[i32], sides: &[i32], from: usize, row: usize, lo: usize, hi: us
     ensures { result ≡ min_from (charged (nums paired.now) (nums sides.now) from row) lo (hi - lo) }
 {
     let mut best = MARK;
+    // By index, for the charges start at another place than the cells do.
     for l in lo..hi {
         let x = ints::add(ints::cell(paired, from + l), ints::cell(sides, row + l));
         best = ints::least(best, x);
@@ -40,7 +41,7 @@ fn run(paired: &[i32], sides: &[i32], from: usize, row: usize, lo: usize, hi: us
 fn near(paired: &[i32], sides: &SideCharges, i: usize, j: usize) -> i32
     requires { (i + smallest_hairpin < j) × (j < longest + 2) × (tri j ≤ length paired.now)
         × Fine InRange (at (nums paired.now)) j }
-    ensures { result ≡ near (nums paired.now) (nums sides.now.charges) i j }
+    ensures { result ≡ near (nums paired.now) (nums sides.now.charges.now) i j }
 {
     let low = i + 2 + SMALLEST_HAIRPIN;
     let count = LENGTHS.min(j.saturating_sub(low));
@@ -51,7 +52,7 @@ fn near(paired: &[i32], sides: &SideCharges, i: usize, j: usize) -> i32
         let q = j - 1 - r;
         let lo = 2usize.saturating_sub(r);
         let hi = LENGTHS.min(q + 1 - low);
-        let x = run(paired, &sides.charges, col, LENGTHS * r, lo, hi);
+        let x = run(paired, sides.charges, col, LENGTHS * r, lo, hi);
         best = ints::least(best, x);
         col -= q;
     }

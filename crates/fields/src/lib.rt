@@ -39,8 +39,8 @@ pub fn end_of_line(list: &[u8], from: usize) -> usize
     }
 }
 
-// The lines of a list in turn: what is given and then what is left are the list.
-// std's `split_inclusive` cuts alike; this one goes by `end_of_line`, whose contract says where a line ends.
+// The lines of a list in turn. The line that is given and then what is left make up the list.
+// std's `split_inclusive` cuts alike; this one goes by `end_of_line`, whose contract and edits docs/PROMISES.md names.
 #[derive(Drop)]
 pub struct Lines<'a>(pub &'a [u8]);
 

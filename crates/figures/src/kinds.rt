@@ -1,7 +1,7 @@
 // The figures of each kind of loop, read from the tables.
-ghost use Rattle.std.specs.Prelude.{◌≡◌, ℕ, suc, ◌+◌, ◌-◌, ◌<◌, ◌≤◌, min, pos, length, get_or};
+ghost use Rattle.std.specs.Prelude.{◌≡◌, ℕ, suc, ◌-◌, ◌<◌, ◌≤◌, pos, length, get_or};
 ghost use Rattle.ints.specs.Ints.{Small};
-ghost use Rattle.figures.specs.Figures.{smallest_hairpin, tabled, longest, longest_side, slope_most};
+ghost use Rattle.figures.specs.Figures.{smallest_hairpin, tabled, longest, longest_side};
 ghost use Rattle.figures.specs.Charge.{mismatch, long, internal, sized, hairpin_of, stack_at, bulge_of, slant, internal_of, many_of};
 
 use crate::tables::{BULGE, HAIRPIN, INTERNAL, LONG, MISMATCH, SLOPE, SLOPE_MOST, STACK, TABLED};

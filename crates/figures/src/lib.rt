@@ -77,19 +77,9 @@ pub fn sides(out: &mut [i32])
     }
 }
 
-// Those charges, made once a fold for a search that reads them at every cell, since a const table is copied at every read.
+// Those charges, lent: they are made once a fold for a search that reads them at every cell, since a const table is copied at every read.
 #[derive(Clone, Copy)]
-pub struct SideCharges {
-    pub charges: [i32; SIDES],
-    pub ghost right: { Sides charges },
-}
-
-impl SideCharges {
-    pub fn new() -> Self
-        ensures { Sides result.charges }
-    {
-        let mut charges = [0; SIDES];
-        sides(&mut charges);
-        SideCharges { charges }
-    }
+pub struct SideCharges<'a> {
+    pub charges: &'a [i32],
+    pub ghost right: { Sides charges.now },
 }

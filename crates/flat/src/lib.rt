@@ -61,9 +61,10 @@ impl From<Option<Base>> for YkmBase {
     ghost from_gives = { λ base r. r ≡ flat_base (told base) };
 
     fn from(base: Option<Base>) -> Self {
+        let refusal = Refusal::NoBase(0);
         let (number, place, letter) = match base {
             Some(base) => (0, None, bases::letter(base)),
-            None => (Refusal::NoBase(0).number(), Some(0), 0),
+            None => (refusal.number(), refusal.place(), 0),
         };
         YkmBase {
             number,
@@ -116,6 +117,7 @@ impl From<Result<Option<usize>, Refusal>> for YkmAnswer {
     }
 }
 
+// The record of the library and that of C have the same fields: C's stands in the header.
 impl From<Record> for YkmRecord {
     ghost from_gives = { λ kept r. r ≡ record_out kept };
 

@@ -1,4 +1,4 @@
-// Signed numbers: the leaves by which the energy crates read, store, add and compare their cells.
+// Signed numbers: the leaves by which the energy crates read, add and compare their cells.
 // Each contract is an equation, so that callers need no law of the order; proofs/Ints.antt has the laws (`omega ints`).
 #![tactic(auto)]
 
@@ -8,8 +8,7 @@ ghost use Rattle.ints.specs.Ints.{minℤ, add_e, Small};
 // What a cell holds that has no structure: above every energy.
 pub const MARK: i32 = 1_000_000_000;
 
-// The smaller of two. It stays beside `i32::min`, since its contract is in minℤ, of which the theorems on folds speak,
-// and must-fail edits hold it (larger, first_always).
+// The smaller of two. It stays beside `i32::min`, since its contract is in minℤ, of which the theorems on folds speak.
 pub fn least(a: i32, b: i32) -> i32
     ensures { result ≡ minℤ a b }
 {
@@ -25,7 +24,7 @@ pub fn plus(a: i32, b: i32) -> i32
     if a < MARK && b < MARK { a + b } else { MARK }
 }
 
-// The plain sum of two small numbers. It stays beside `a + b`, since must-fail edits hold it (first_twice, second_twice).
+// The plain sum of two small numbers. It stays beside `a + b`: docs/PROMISES.md promises the call.
 #[tactic(auto, using(std::proofs::lemmas::Int::ints))]
 pub fn add(a: i32, b: i32) -> i32
     requires { Small a × Small b }
@@ -34,8 +33,7 @@ pub fn add(a: i32, b: i32) -> i32
     a + b
 }
 
-// How far a number is from 0, as a size: printing writes the sign by itself.
-// It stays beside `unsigned_abs`, since must-fail edits hold it (one_is_turned, one_too_far).
+// How far a number is from 0, as a size. It stays beside `unsigned_abs`: docs/PROMISES.md promises the call.
 pub fn magnitude(a: i32) -> usize
     requires { Small a }
     ensures { result ≡ nat_abs a }
@@ -43,7 +41,7 @@ pub fn magnitude(a: i32) -> usize
     a.unsigned_abs() as usize
 }
 
-// One cell of a table. It stays beside `table[at]`, since must-fail edits hold it (first_cell_always, half_way).
+// One cell of a table. It stays beside `table[at]`: docs/PROMISES.md promises the call.
 pub fn cell(table: &[i32], at: usize) -> i32
     requires { at < length table.now }
     ensures { result ≡ get_or table.now at (pos 0) }
@@ -51,7 +49,7 @@ pub fn cell(table: &[i32], at: usize) -> i32
     table[at]
 }
 
-// Stores one cell. It stays beside `cells[at] = energy`, since must-fail edits hold it (zero_stored, stored_at_0).
+// Stores one cell. It stays beside `cells[at] = energy`: docs/PROMISES.md promises the call.
 pub fn store(cells: &mut [i32], at: usize, energy: i32)
     requires { at < length cells.old }
     ensures { cells.new ≡ set cells.old at energy }

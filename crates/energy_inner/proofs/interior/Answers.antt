@@ -27,5 +27,5 @@ returns c =
     ∙ ap₂ minℤ
     (is c.least.result c.least.type_inv c.least.ensures ∙ ap₂ minℤ (is c.near-other.result c.near-other.type_inv c.near-other.ensures) (is c.inner_at-stack.result c.inner_at-stack.type_inv c.inner_at-stack.ensures))
     (is c.least-2.result c.least-2.type_inv c.least-2.ensures ∙ ap₂ minℤ (is c.inner_at-left.result c.inner_at-left.type_inv c.inner_at-left.ensures) (is c.inner_at-right.result c.inner_at-right.type_inv c.inner_at-right.ensures))
-    ∙ search_is (view c.args.bases.now) (nums c.args.paired.now) (nums c.args.sides.now.charges) c.args.i c.args.j c.args.sides.now.right.each c.requires.0.fine
+    ∙ search_is (view c.args.bases.now) (nums c.args.paired.now) (nums c.args.sides.now.charges.now) c.args.i c.args.j c.args.sides.now.right.each c.requires.0.fine
     (may_far (view c.args.bases.now) c.args.i c.args.j c.requires.1)

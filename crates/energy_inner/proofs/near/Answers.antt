@@ -13,7 +13,7 @@ run-x-requires c =
     let m = side_most _ _ _ _ _ e c.min-hi.ensures in
     let t = c.args.sides.now.right.long in record {
       hi_in_bounds = (side_room _ _ _ _ _ e c.min-hi.ensures _ _ c.loop-r.invariant.0 c.requires.2, omega arith, side_smalls _ _ _ _ _ e c.min-hi.ensures (nums c.args.paired.now) _ c.requires.1 c.loop-r.invariant.0 c.requires.3);
-      by_index = λ l lo h. side_charges _ _ _ _ _ e c.min-hi.ensures c.args.sides.now.charges l c.args.sides.now.right (omega arith) h;
+      by_index = λ l lo h. side_charges _ _ _ _ _ e c.min-hi.ensures c.args.sides.now.charges.now l c.args.sides.now.right (omega arith) h;
     }
 
 pub overflow_sub-col : goal.overflow_sub-col
@@ -25,12 +25,12 @@ loop-r-preserved c = (
   cc (
     plain c.least-best.result c.least-best.type_inv,
     plain c.run-x.result c.run-x.type_inv,
-    side_run (nums c.args.paired.now) (nums c.args.sides.now.charges) c.args.i c.args.j c.loop-r.r c.loop-r.col c.saturating_sub-lo.result c.min-hi.result c.loop-r.invariant.0
+    side_run (nums c.args.paired.now) (nums c.args.sides.now.charges.now) c.args.i c.args.j c.loop-r.r c.loop-r.col c.saturating_sub-lo.result c.min-hi.result c.loop-r.invariant.0
         c.saturating_sub-lo.ensures c.min-hi.ensures,
-    near_more (side (nums c.args.paired.now) (nums c.args.sides.now.charges) c.args.i c.args.j) c.loop-r.r,
+    near_more (side (nums c.args.paired.now) (nums c.args.sides.now.charges.now) c.args.i c.args.j) c.loop-r.r,
   ),
 )
 
 pub returns : goal.returns
 unfolding near
-returns c = c.loop-r.invariant.1 ∙ ap (min_from (side (nums c.args.paired.now) (nums c.args.sides.now.charges) c.args.i c.args.j) 0) (omega arith)
+returns c = c.loop-r.invariant.1 ∙ ap (min_from (side (nums c.args.paired.now) (nums c.args.sides.now.charges.now) c.args.i c.args.j) 0) (omega arith)

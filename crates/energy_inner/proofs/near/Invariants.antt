@@ -8,4 +8,4 @@ use Rattle.energy_inner.specs.Search.{side}
 use Rattle.energy_inner.proofs.near.Given as goal
 
 abbrev pub invariant-loop-r : goal.invariant-loop-r
-invariant-loop-r l = (l.col ≡ place (l.i + 1) (l.j - 1 - l.r)) × (l.best ≡ min_from (side (nums l.paired) (nums l.sides.charges) l.i l.j) 0 l.r)
+invariant-loop-r l = (l.col ≡ place (l.i + 1) (l.j - 1 - l.r)) × (l.best ≡ min_from (side (nums l.paired) (nums l.sides.charges.now) l.i l.j) 0 l.r)
