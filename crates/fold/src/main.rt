@@ -5,7 +5,6 @@
 ghost use Rattle.std.specs.Prelude.{◌≡◌, ◌≤◌, length, IfOk, OnErr};
 ghost use Rattle.io.specs.Counts.{IsPrefixLen};
 ghost use Rattle.refusals.specs.Refusals.{program_limit};
-ghost use Rattle.ints.specs.Ints.{Small};
 
 use refusals::{PROGRAM_LIMIT, Refusal};
 use std::env::{Env, FillError};
@@ -28,35 +27,18 @@ fn refused(rt: &impl Print, refusal: Refusal) -> io::Result<()> {
     rt.write_all(b"\n")
 }
 
-// The rest of a line: a structure's brackets.
-fn brackets(rt: &impl Print, pairs: &[u16]) -> io::Result<()>
+// A line of an answer: its text and a structure's brackets.
+fn answer(rt: &impl Print, text: &[u8], pairs: &[u16]) -> io::Result<()>
     requires { length pairs.now ≤ program_limit }
 {
     let n = pairs.len();
-    let mut text = [0u8; PROGRAM_LIMIT];
+    let mut structure = [0u8; PROGRAM_LIMIT];
     // A fold's table is never refused.
-    let _ = brackets::to_dot_bracket(pairs, &mut text);
+    let _ = brackets::to_dot_bracket(pairs, &mut structure);
+    rt.write_all(text)?;
     rt.write_all(b" ")?;
-    rt.write_all(&text[..n])?;
+    rt.write_all(&structure[..n])?;
     rt.write_all(b"\n")
-}
-
-fn pairs_line(rt: &impl Print, count: usize, pairs: &[u16]) -> io::Result<()>
-    requires { length pairs.now ≤ program_limit }
-{
-    let mut line = [0u8; lines::ROOM];
-    let n = lines::pairs(count, &mut line);
-    rt.write_all(&line[..n])?;
-    brackets(rt, pairs)
-}
-
-fn energy_line(rt: &impl Print, z: i32, pairs: &[u16]) -> io::Result<()>
-    requires { Small z × (length pairs.now ≤ program_limit) }
-{
-    let mut line = [0u8; lines::ROOM];
-    let n = lines::energy(z, &mut line);
-    rt.write_all(&line[..n])?;
-    brackets(rt, pairs)
 }
 
 // The normalised sequence and the most pairs, or the refusal; whether it was folded.
@@ -71,7 +53,9 @@ fn fold_pairs(rt: &impl Print, seq: &[u8]) -> io::Result<bool>
         Ok((_, count)) => {
             rt.write_all(&bases[..n])?;
             rt.write_all(b"\n")?;
-            pairs_line(rt, count, &pairs[..n])?;
+            let mut line = [0u8; lines::ROOM];
+            let len = lines::pairs(count, &mut line);
+            answer(rt, &line[..len], &pairs[..n])?;
             Ok(true)
         }
         Err(refusal) => {
@@ -100,7 +84,11 @@ fn fold_energy(rt: &impl Print, seq: &[u8]) -> io::Result<()>
         &mut pairs,
     );
     match minimum {
-        Ok(z) => energy_line(rt, z, &pairs[..n]),
+        Ok(z) => {
+            let mut line = [0u8; lines::ROOM];
+            let len = lines::energy(z, &mut line);
+            answer(rt, &line[..len], &pairs[..n])
+        }
         Err(refusal) => refused(rt, refusal),
     }
 }
