@@ -225,6 +225,7 @@ clear_table t h f = rw (le-ltb structure_limit (length t) h, sound_clear t f)
 
 -- ---- the room is looked at last
 module _ (t : List ℕ) (room need : ℕ) where
+  -- the edit `four_before_eight` is refused here
   pub write_refused : {num : ℕ} {at : Option ℕ} → table_due t ≡ refuse num at → write_due t room need ≡ refuse num at
   unfolding write_due
   write_refused e = rw e

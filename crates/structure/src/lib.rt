@@ -15,7 +15,7 @@ use refusals::{Refusal, STRUCTURE_LIMIT};
 pub fn opens(k: usize, v: u16) -> bool
     ensures { cond result 1 0 ≡ opens k v }
 {
-    v != 65535 && k < v as usize
+    v != 65535 && k < usize::from(v)
 }
 
 // Is the entry of k 65535, or a position other than k that names k back?
@@ -23,8 +23,8 @@ fn named_back(table: &[u16], k: usize) -> bool
     requires { k < length table.now }
     ensures { result ≡ named (view table.now) (length table.now) k }
 {
-    let v = table[k] as usize;
-    v == 65535 || v < table.len() && v != k && table[v] as usize == k
+    let v = usize::from(table[k]);
+    v == 65535 || v < table.len() && v != k && usize::from(table[v]) == k
 }
 
 // The first position whose entry is not.
@@ -32,27 +32,22 @@ fn first_unnamed(table: &[u16]) -> Option<usize>
     ensures { MatchOption result (FirstUnnamed (view table.now) (length table.now) (length table.now))
         (λ k. (k < length table.now) × FirstUnnamed (view table.now) (length table.now) k) }
 {
-    for i in 0..table.len() {
-        if !named_back(table, i) {
-            return Some(i);
-        }
-    }
-    None
+    (0..table.len()).find(|&i| !named_back(table, i))
 }
 
 // The place after x, whose entry is v: a pair that stays below hi is jumped over, and there is none where it doesn't.
-fn hop(x: usize, v: usize, hi: usize) -> Option<usize>
-    requires x_bound { x < 65536 }
-    requires v_bound { v < 65536 }
+fn hop(x: usize, v: u16, hi: usize) -> Option<usize>
+    requires { x < 65536 }
     ensures { result ≡ hop_to x v hi }
 {
     if v == 65535 {
         return Some(x + 1);
     }
-    if v < x || hi <= v {
+    let partner = usize::from(v);
+    if partner < x || hi <= partner {
         return None;
     }
-    Some(v + 1)
+    Some(partner + 1)
 }
 
 // A table whose entries all name back, and that is no longer than the limit.
@@ -73,7 +68,7 @@ impl Named<'_> {
         let mut x = lo;
         // No range goes from pair to pair: each turn says where the next one is.
         while x < hi {
-            let Some(y) = hop(x, self.table[x] as usize, hi) else {
+            let Some(y) = hop(x, self.table[x], hi) else {
                 return false;
             };
             x = y;
@@ -92,7 +87,7 @@ impl Named<'_> {
         if !opens(i, v) {
             return true;
         }
-        self.walk(i + 1, v as usize)
+        self.walk(i + 1, usize::from(v))
     }
 
     // Is no pair crossed by another? From right to left each position is walked over by one pair only, the innermost around it.
@@ -106,40 +101,39 @@ impl Named<'_> {
         }
         self.walk(0, self.table.len())
     }
-}
 
-// Is the pair that opens at a crossed by one that opens further right?
-fn crossed_at(table: &[u16], a: usize) -> bool
-    requires table_len_bound { length table.now ≤ structure_limit }
-    requires a_in_bounds { a < length table.now }
-    ensures { Tells result (Crossed (view table.now) (length table.now) a) (Crossed (view table.now) (length table.now) a → ⊥) }
-{
-    let n = table.len();
-    let end = table[a] as usize;
-    if n <= end {
-        return false;
-    }
-    for b in a + 1..end {
-        let v = table[b] as usize;
-        if end < v && v < n {
-            return true;
+    // Is the pair that opens at a crossed by one that opens further right?
+    fn crossed_at(&self, a: usize) -> bool
+        requires a_in_bounds { a < length self.now.table.now }
+        ensures { Tells result (Crossed (view self.now.table.now) (length self.now.table.now) a)
+            (Crossed (view self.now.table.now) (length self.now.table.now) a → ⊥) }
+    {
+        let n = self.table.len();
+        let end = usize::from(self.table[a]);
+        if n <= end {
+            return false;
         }
+        for b in a + 1..end {
+            let v = usize::from(self.table[b]);
+            if end < v && v < n {
+                return true;
+            }
+        }
+        false
     }
-    false
-}
 
-// The lowest opening position of a crossed pair, where there is one: only an unsound table pays for this search.
-fn lowest_crossed(table: &[u16]) -> usize
-    requires table_len_bound { length table.now ≤ structure_limit }
-    requires crossing { Crossing (view table.now) (length table.now) }
-    ensures { crossed_due (view table.now) (length table.now) ≡ refuse 8 (Some result) }
-{
-    for a in 0..table.len() {
-        if crossed_at(table, a) {
-            return a;
+    // The lowest opening position of a crossed pair, where there is one: only an unsound table pays for this search.
+    fn lowest_crossed(&self) -> usize
+        requires crossing { Crossing (view self.now.table.now) (length self.now.table.now) }
+        ensures { crossed_due (view self.now.table.now) (length self.now.table.now) ≡ refuse 8 (Some result) }
+    {
+        for a in 0..self.table.len() {
+            if self.crossed_at(a) {
+                return a;
+            }
         }
+        unreachable!()
     }
-    unreachable!()
 }
 
 // 8 where the table is unsound, with the place.
@@ -154,7 +148,7 @@ pub fn unsound(table: &[u16]) -> Result<(), Refusal>
     if named.nested() {
         return Ok(());
     }
-    Err(Refusal::Unsound(lowest_crossed(table)))
+    Err(Refusal::Unsound(named.lowest_crossed()))
 }
 
 // 3 where the table is too long, or 8.

@@ -20,7 +20,7 @@ pub returns-then-nested : goal.returns-then-nested
 returns-then-nested c = sym (sound_clear _ (c.nested.ensures.holds c.if-nested.true))
 
 pub lowest_crossed-requires : goal.lowest_crossed-requires
-lowest_crossed-requires c = record { table_len_bound = c.requires; crossing = c.nested.ensures.fails c.if-nested.false }
+lowest_crossed-requires c = record { crossing = c.nested.ensures.fails c.if-nested.false }
 
 pub returns : goal.returns
 unfolding unsound_due

@@ -22,4 +22,4 @@ returns c =
     tells_map
     (shut_open (view c.args.self.now.table.now) (length c.args.self.now.table.now) (omega arith) c.args.self.now.named c.args.i c.requires.i_in_bounds opens-here c.requires.shut)
     (crosses (view c.args.self.now.table.now) (length c.args.self.now.table.now) (omega arith) c.args.self.now.named c.args.i c.requires.i_in_bounds opens-here)
-    c.walk.ensures
+    (rw c.from.ensures at c.walk.ensures)

@@ -1,7 +1,7 @@
 use native.Mathlib.Omega.{arith}
 use Rattle.structure.specs.Walking.{crossed_by}
 use Rattle.structure.proofs.Checking.{tells_true, tells_false}
-use Rattle.structure.proofs.crossed_at.Goals as goal
+use Rattle.structure.proofs.Named.crossed_at.Goals as goal
 
 pub returns-then-n-end : goal.returns-then-n-end
 returns-then-n-end c = tells_false (elim [ crossed_by b o ↦ omega arith ])
@@ -11,7 +11,7 @@ loop-b-init c = λ k l o. omega arith
 
 pub returns-then-v-n : goal.returns-then-v-n
 returns-then-v-n c =
-    tells_true (crossed_by c.loop-b.b (record { right = omega arith; within = c.loop-b-test.true; past = c.if-end-v.true; pair = c.if-v-n.true }))
+    tells_true (crossed_by c.loop-b.b (record { right = omega arith; within = omega arith; past = omega arith; pair = omega arith }))
 
 pub returns : goal.returns
 returns c = tells_false (elim [ crossed_by b o ↦ c.loop-b.invariant b (omega arith) o ])

@@ -1,9 +1,0 @@
--- `structure::crossed_at` meets its contract. The loop's invariant: no pair that opens before `b` crosses. Assumes nothing.
-use Prim.Native.Nat.{ℕ, ◌<◌}
-use lib.ListN.{length}
-use Rattle.structure.specs.Walking.{Over}
-use Rattle.structure.specs.Table.{view}
-use Rattle.structure.proofs.crossed_at.Given as goal
-
-abbrev pub invariant-loop-b : goal.invariant-loop-b
-invariant-loop-b l = (k : ℕ) → k < l.b → Over (view l.table) (length l.table) l.a k → ⊥
