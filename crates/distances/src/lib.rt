@@ -1,4 +1,5 @@
 // How far two structures of one length are apart: by their pairs, and by their mountains.
+// The two calls differ in the measure alone, and a function that is handed it would be longer than both.
 #![tactic(auto)]
 
 ghost use Rattle.std.specs.Prelude.{◌≡◌, cond, ◌+◌, ◌-◌, ◌≤◌, eqb, length};
@@ -46,6 +47,7 @@ fn pairs_apart(a: &[u16], b: &[u16]) -> usize
     ensures { result ≡ base_pair_distance a.now b.now }
 {
     let mut n = 0;
+    // The place is needed beside both entries: enumerate and zip together are no plainer. So also in climb.
     for (k, &v) in a.iter().enumerate() {
         n += unshared(k, v, b[k]);
     }
@@ -56,7 +58,7 @@ fn pairs_apart(a: &[u16], b: &[u16]) -> usize
 fn closes(k: usize, v: u16) -> bool
     ensures { cond result 1 0 ≡ closes k v }
 {
-    v != 65535 && (v as usize) < k
+    v != 65535 && usize::from(v) < k
 }
 
 // The height at position k, whose entry is v, from the height h before it: a closing place is already down.
@@ -88,7 +90,6 @@ fn climb(a: &[u16], b: &[u16]) -> usize
     sum
 }
 
-// The two calls differ in the measure alone, and a function that is handed it would be longer than both.
 // How many pairs are in one of two structures and not in the other.
 #[tactic(auto, using(crate::proofs::Distances::both_clear))]
 pub fn base_pair_distance(a: &[u16], b: &[u16]) -> Result<usize, Refusal>
