@@ -1,4 +1,5 @@
-// Refusals: what a call may say no with, and how much the calls take. A row of checks comes to `Ok`, or to the first refusal that it finds.
+// Refusals: what a call may say no with, and how much the calls take. A row of checks comes to `Ok`, or to the first refusal
+// that it finds.
 // The numbers and places are those of the table in docs/RULES.md; specs/Refusals.antt has them as definitions.
 #![tactic(auto)]
 
@@ -65,17 +66,17 @@ impl Refusal {
         ensures { result ≡ place self }
     {
         match self {
-            Refusal::NoBase(k) => Some(k),
-            Refusal::Unopened(k) => Some(k),
-            Refusal::NoBracket(k) => Some(k),
-            Refusal::Unclosed(k) => Some(k),
-            Refusal::Unsound(k) => Some(k),
-            Refusal::Empty => None,
-            Refusal::TooLong => None,
-            Refusal::TooShort => None,
-            Refusal::Unequal => None,
-            Refusal::Outside => None,
-            Refusal::Unbelievable => None,
+            Refusal::NoBase(k)
+            | Refusal::Unopened(k)
+            | Refusal::NoBracket(k)
+            | Refusal::Unclosed(k)
+            | Refusal::Unsound(k) => Some(k),
+            Refusal::Empty
+            | Refusal::TooLong
+            | Refusal::TooShort
+            | Refusal::Unequal
+            | Refusal::Outside
+            | Refusal::Unbelievable => None,
         }
     }
 }
