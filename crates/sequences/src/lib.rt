@@ -12,12 +12,13 @@ use refusals::Refusal;
 pub fn first_no_base(sequence: &[u8]) -> Result<(), Refusal>
     ensures { told result ≡ bases_due sequence.now }
 {
-    for (k, &byte) in sequence.iter().enumerate() {
-        if bases::read_base(byte).is_none() {
-            return Err(Refusal::NoBase(k));
-        }
+    match sequence
+        .iter()
+        .position(|&byte| bases::read_base(byte).is_none())
+    {
+        Some(k) => Err(Refusal::NoBase(k)),
+        None => Ok(()),
     }
-    Ok(())
 }
 
 // The letter that is kept of a byte; 0 where it is no base, as `normal` has it: the call answers every byte.
@@ -32,6 +33,7 @@ pub fn keep(sequence: &[u8], letters: &mut [u8])
     requires { length sequence.now ≤ length letters.old }
     ensures { letters.new ≡ map normal sequence.now ++ drop (length sequence.now) letters.old }
 {
+    // Not zipped with `letters.iter_mut()`: of what is written through an adapter of it a proof knows nothing.
     for (k, &byte) in sequence.iter().enumerate() {
         letters[k] = letter_of(byte);
     }
