@@ -6,6 +6,9 @@
 ghost use Rattle.std.specs.Prelude.{◌≡◌};
 ghost use Rattle.refusals.specs.Refusals.{number, place};
 
+use std::error::Error;
+use std::fmt;
+
 #[derive(Clone, Copy, Debug, PartialEq, Eq)]
 pub enum Refusal {
     // The sequence is empty, or an erase would empty it.
@@ -80,3 +83,16 @@ impl Refusal {
         }
     }
 }
+
+// `refused 1`, or with a place `refused 2 at 4`.
+impl fmt::Display for Refusal {
+    fn fmt<W: fmt::Write>(&self, f: &mut fmt::Formatter<W>) -> fmt::Result {
+        write!(f, "refused {}", self.number())?;
+        match self.place() {
+            Some(k) => write!(f, " at {k}"),
+            None => Ok(()),
+        }
+    }
+}
+
+impl Error for Refusal {}

@@ -7,19 +7,11 @@ use refusals::Refusal;
 use std::fmt::Display;
 use std::io;
 
-fn refused(rt: &impl Print, refusal: Refusal) -> io::Result<()> {
-    print!(rt; " refused {}", refusal.number())?;
-    if let Some(k) = refusal.place() {
-        print!(rt; " at {k}")?;
-    }
-    Ok(())
-}
-
 // What a call answers: a number, or a refusal.
 fn tell<T: Display + Drop>(rt: &impl Print, answer: Result<T, Refusal>) -> io::Result<()> {
     match answer {
         Ok(n) => print!(rt; " is {n}"),
-        Err(refusal) => refused(rt, refusal),
+        Err(refusal) => print!(rt; " {refusal}"),
     }
 }
 
@@ -140,7 +132,7 @@ fn edited(
             Ok(after)
         }
         Err((refusal, kept)) => {
-            refused(rt, refusal)?;
+            print!(rt; " {refusal}")?;
             Ok(kept)
         }
     }
