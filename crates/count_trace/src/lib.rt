@@ -9,7 +9,8 @@ use crate::choice::Choice;
 
 mod choice;
 
-// What a traceback reads: the bases, the cells of their spans, and the gap.
+// What a traceback reads: the bases, the cells of their spans, and the gap. That they reach to a position (`Covers`) is asked at
+// each call, as an index is of a slice.
 #[derive(Clone, Copy)]
 struct Fold<'a> {
     bases: &'a [u8],

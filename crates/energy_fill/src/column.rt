@@ -1,4 +1,6 @@
 // One column of the three tables, rewritten by the rule in passes over contiguous cells.
+// A table and a column's number go together through `start`, `take` and `settle` alone, once for each of two tables: a struct of
+// them would be made and taken apart in turn.
 ghost use Rattle.std.specs.Prelude.{◌≡◌, ◌+◌, ◌≤◌, ◌<◌, length};
 ghost use Rattle.structure.specs.Table.{view};
 ghost use Rattle.cells.specs.Tri.{tri};

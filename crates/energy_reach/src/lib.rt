@@ -14,7 +14,7 @@ ghost use Rattle.energy_reach.specs.Reach.{same, split_at, reaches, Ready};
 use figures::{ARM, CLOSING};
 use ints::MARK;
 
-// One table of a fold: the cells of n columns.
+// One table of a fold: the cells of n columns. That a column is among them is asked at each call, as an index is of a slice.
 #[derive(Clone, Copy)]
 pub struct Triangle<'a> {
     pub cells: &'a [i32],

@@ -20,7 +20,8 @@ fn count(table: &[u16]) -> usize
     n
 }
 
-// Writes the pair that opens at k, where its entry v does, at place n, and says where the next one goes.
+// Writes the pair that opens at k, where its entry v does, at place n, and says where the next one goes. The list is C's, two
+// numbers a pair in lent memory, and how many pairs it gets is known only as they are met.
 fn enter(k: usize, v: u16, n: usize, out: &mut [u16]) -> usize
     requires k_bound { k < 65536 }
     requires v_in_bounds { n + 2 * opens k v ≤ length out.old }
