@@ -9,7 +9,7 @@ fn bracket(k: usize, v: u16) -> u8
     if v == 65535 {
         return b'.';
     }
-    if v as usize <= k {
+    if usize::from(v) <= k {
         return b')';
     }
     b'('
@@ -20,6 +20,7 @@ pub fn spell(table: &[u16], text: &mut [u8])
     requires { length table.now ≤ length text.old }
     ensures { text.new ≡ brackets table.now ++ drop (length table.now) text.old }
 {
+    // The place is needed beside the entry, and of what is written through an adapter of `text.iter_mut()` a proof knows nothing.
     for (k, &v) in table.iter().enumerate() {
         text[k] = bracket(k, v);
     }

@@ -104,6 +104,7 @@ impl Text<'_> {
         requires text_value { depth (view self.now.bytes.now) (length self.now.bytes.now) ≡ 0 }
         ensures { Written self.now.bytes.now pairs.old pairs.new }
     {
+        // 65535 where nothing is open: it is kept in the table's entries, where no Option fits.
         let mut top = 65535;
         for (k, &b) in self.bytes.iter().enumerate() {
             top = put(b, k, top, pairs);
