@@ -65,7 +65,7 @@ pub fn can_pair(a: u8, b: u8) -> bool
 }
 
 // The number of a pair in the order AU UA GC CG GU UG, by which the stack figures are laid out; 6 for bytes that don't pair,
-// since `ykm_pair_index` answers so, and a function that answers every two bytes stays one.
+// since `ykm_pair_index` answers so.
 #[tactic(auto, unfolding(crate::specs::Bases::pair_index))]
 pub fn pair_index(a: u8, b: u8) -> usize
     ensures { result ≡ pair_index a b }
