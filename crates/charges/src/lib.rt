@@ -21,8 +21,8 @@ fn bars(bases: &[u8], pairs: &[u16], i: usize) -> bool
     structure::opens(i, pairs[i]) && !closing::may_close(bases, i, usize::from(pairs[i]))
 }
 
-// The first position that opens a pair that may not close a loop; the length where none does, and the structure is a candidate:
-// its callers are programs, and a function that answers every structure stays one.
+// The first position that opens a pair that may not close a loop; the length where none does, as `first_barred` of
+// specs/Loops.antt has it, by which the theorem `candidate` reads it.
 #[tactic(auto, using(crate::proofs::Barred::barred_here, crate::proofs::Barred::barred_next, crate::proofs::Barred::barred_none))]
 pub fn first_barred(bases: &[u8], pairs: &[u16]) -> usize
     requires { Sound pairs.now × (length pairs.now ≤ length bases.now) }
