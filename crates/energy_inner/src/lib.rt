@@ -60,6 +60,8 @@ fn near(paired: &[i32], sides: &SideCharges, i: usize, j: usize) -> i32
 }
 
 // What i with j around the one inner pair x with y costs: none where x and y may not close a loop.
+// Inlined, since a fold asks it three times at every cell.
+#[inline(always)]
 pub fn inner_at(bases: &[u8], paired: &[i32], i: usize, j: usize, x: usize, y: usize) -> i32
     requires inside { (i < x) × (x ≤ y) × (y < j) × (x - suc i ≤ longest_side) × (j - suc y ≤ longest_side) }
     requires closes { (j < length bases.now) × (may_close (view bases.now) i j ≡ true) }
