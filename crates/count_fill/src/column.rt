@@ -1,6 +1,6 @@
 // One column of the triangle: rewritten by the rule in passes over contiguous cells, and tested.
 ghost use Rattle.std.specs.Prelude.{◌≡◌, ◌+◌, ◌≤◌, ◌<◌, max, length};
-ghost use Rattle.cells.specs.Tri.{tri, place};
+ghost use Rattle.cells.specs.Tri.{tri};
 ghost use Rattle.cells.specs.Fill.{at, Fine, FineFrom, Rows};
 ghost use Rattle.cells.specs.Pass.{Raised, Settled};
 ghost use Rattle.structure.specs.Table.{view};
@@ -36,12 +36,15 @@ fn opening(bases: &[u8], cells: &[u16], i: usize, j: usize, gap: usize) -> u16
     cells::cell(cells, i, j - 1).max(with_pair(bases, cells, i, j, gap))
 }
 
-// Rows 0 to `from` of column j, which starts at `to`, before any split.
+// Rows 0 to `from` of column j, before any split.
+// The bases, the cells and the gap go apart: the cells are written here while the rule reads them.
 #[tactic(auto, using(cells::proofs::Places::place_below))]
-fn start(bases: &[u8], cells: &mut [u16], j: usize, to: usize, from: usize, gap: usize)
-    requires { (to ≡ tri j) × (from ≤ j) × Before bases.now cells.old j }
+fn start(bases: &[u8], cells: &mut [u16], j: usize, from: usize, gap: usize)
+    requires { (from ≤ j) × Before bases.now cells.old j }
     ensures { Started gap (view bases.now) (view cells.old) (view cells.new) j (from + 1) }
 {
+    let to = cells::place(0, j);
+    // To one past the last: a range with its end included is slower here.
     for i in 0..from + 1 {
         cells[to + i] = opening(bases, cells, i, j, gap);
     }
@@ -61,12 +64,13 @@ fn raise(cells: &mut [u16], col: usize, to: usize, rows: usize, v: u16)
 
 // Every split of rows 0 to `from` of column j, from the last to the first: when (k + 1, j) is final, it is taken into the rows before it.
 #[tactic(auto, using(cells::proofs::Places::tri_step))]
-fn settle(cells: &mut [u16], j: usize, to: usize, from: usize)
-    requires { (to ≡ tri j) × (from ≤ j) × (j < 65535) × (tri (j + 1) ≤ length cells.old) × Fine AnyHalf (at (view cells.old)) (j + 1) }
+fn settle(cells: &mut [u16], j: usize, from: usize)
+    requires { (from ≤ j) × (j < 65535) × (tri (j + 1) ≤ length cells.old) × Fine AnyHalf (at (view cells.old)) (j + 1) }
     ensures { Settled max both AnyHalf (view cells.new) (view cells.old) (view cells.new) j from 0 }
 {
     // Carried from column to column: with `place` at each the compiler makes no wide loop of the passes.
-    let mut col = to;
+    let mut col = cells::place(0, j);
+    let to = col;
     for k in (0..j).rev() {
         let v = cells[to + k + 1];
         col -= k + 1;
@@ -80,9 +84,8 @@ pub fn rows(bases: &[u8], cells: &mut [u16], j: usize, from: usize, gap: usize)
         × FineFrom (Half (view bases.now)) (at (view cells.old)) (from + 1) j }
     ensures { Rows (nussinov gap) Half (view bases.now) (view cells.old) (view cells.new) j from 0 }
 {
-    let to = cells::place(0, j);
-    start(bases, cells, j, to, from, gap);
-    settle(cells, j, to, from);
+    start(bases, cells, j, from, gap);
+    settle(cells, j, from);
 }
 
 // How full the fullest of so many cells of the column at `to` is: one contiguous pass without a way out, which the compiler can make wide.

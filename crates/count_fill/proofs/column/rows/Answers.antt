@@ -5,7 +5,6 @@ use Rattle.count_fill.proofs.column.rows.Goals as goal
 
 pub settle-requires : goal.settle-requires
 settle-requires c = (
-  omega (arith, c.place-to.ensures),
   omega arith,
   omega arith,
   omega (arith, c.start.auto.cells),
