@@ -1,4 +1,4 @@
--- Searches as loops make them, and what they say of their tests. Assumes nothing.
+-- Searches, and what they say of their tests. Assumes nothing.
 use mathlib.Core.Path.{◌≡◌, refl, ap, subst, sym, ◌∙◌}
 use mathlib.Core.Logic.{by_cases}
 use mathlib.Core.Bool.{Bool, true, false, cond}
@@ -8,23 +8,6 @@ use native.Mathlib.Omega.{arith}
 use Rattle.std.proofs.Common.{Option, None, Some}
 use Rattle.std.specs.Option.{MatchOption}
 use Rattle.searches.specs.First.{first_passing}
-
--- at k, of what is left before j; r is what the test answers there
-module _ (test : ℕ → Bool) where
-  first_none : (k : ℕ) {m : ℕ} → m ≡ 0 → first_passing test k m ≡ None
-  unfolding first_passing
-  first_none k e = rw e
-
-  first_more : (k : ℕ) {m l : ℕ} → m ≡ suc l → first_passing test k m ≡ cond (test k) (Some k) (first_passing test (k + 1) l)
-  unfolding first_passing
-  first_more k e = rw e
-
-  module _ (k j : ℕ) (h : k < j) {r : Bool} (e : r ≡ test k) where
-    pub first_here : r ≡ true → first_passing test k (j - k) ≡ Some k
-    first_here q = first_more k {l = j - (k + 1)} (omega arith) ∙ simp (← e, q)
-
-    pub first_next : r ≡ false → first_passing test k (j - k) ≡ first_passing test (k + 1) (j - (k + 1))
-    first_next q = first_more k {l = j - (k + 1)} (omega arith) ∙ simp (← e, q)
 
 -- what was found passes, and is among the n numbers from k on; where nothing was, none passes
 pub data Sought (test : ℕ → Bool) (k n : ℕ) : Option ℕ → Type 0 where
