@@ -85,9 +85,6 @@ begun_same gap b c c' i j h e f =
 -- ---- starting a column
 
 module _ (gap : ℕ) (b : Bases) (g₀ : ℕ → ℕ) (j : ℕ) where
-  pub started_none : Started gap b g₀ g₀ j 0
-  started_none = record { left = λ k p. refl; right = λ k p. refl; each = λ i p. absurd (omega arith) }
-
   pub started_more :
       (g g' : ℕ → ℕ) (n p x : ℕ) → p ≡ place n j → n ≤ j → Put g g' p x → x ≡ begun gap b (at g) n j →
       Started gap b g₀ g j n → Started gap b g₀ g' j (n + 1)
