@@ -28,9 +28,6 @@ module _ {A : Type 0} (Ok : ℕ → ℕ → A → Type 0) (c : Cells A) (n : ℕ
   else_filled i j h l x = absurd (omega (arith, x (omega arith)))
 
 module _ {A : Type 0} (rule : Rule A) (loc : Local rule) (Ok : Bases → ℕ → ℕ → A → Type 0) (keeps : Keeps rule Ok) (b : Bases) where
-  pub rows_none : (g : ℕ → A) (j from i : ℕ) → from < i → FineFrom (Ok b) (at g) i j → Rows rule Ok b g g j from i
-  rows_none g j from i h f = record { left = λ k p. refl; right = λ k p. refl; fresh = λ k p q. absurd (omega arith); fine = f }
-
   -- a store at (i, j) leaves the other cells
   other : (g g' : ℕ → A) (i j : ℕ) (v : A) → i ≤ j → Put g g' (place i j) v → (k l : ℕ) → k ≤ l → (k ≡ i → l ≡ j → ⊥) → at g k l ≡ at g' k l
   other g g' i j v h put k l m n = sym (put.off (place k l) (λ e. n (place_row k l i j m h e) (place_column k l i j m h e)))
@@ -69,13 +66,6 @@ module _ {A : Type 0} (rule : Rule A) (loc : Local rule) (Ok : Bases → ℕ →
       mine =
           subst (Ok b i j) (sym (put.here ∙ e))
           (keeps b (at g) i j (omega arith) (λ k l p q u w. r.fine k l q u (λ z. omega arith)))
-
-  -- the same as a loop that counts down has it: `m` is the row before, and the store is at a place that was computed
-  pub rows_next :
-      (g₀ g g' : ℕ → A) (j from m i p : ℕ) (v : A) → m ≡ i + 1 → i ≤ from → from ≤ j → p ≡ place i j → Put g g' p v → v ≡ rule b (at g) i j →
-      Rows rule Ok b g₀ g j from m → Rows rule Ok b g₀ g' j from i
-  rows_next g₀ g g' j from m i p v n h l q put e r =
-      rows_more g₀ g g' j from i v h l (subst (λ (x : ℕ). Put g g' x v) q put) e (subst (λ (x : ℕ). Rows rule Ok b g₀ g j from x) n r)
 
   -- what the rows of the next column ask
   pub columns_fine :
