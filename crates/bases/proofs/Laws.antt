@@ -11,7 +11,6 @@ use lib.ListN.{get_or}
 use Rattle.bases.specs.declared.Base.{Base}
 use Rattle.bases.specs.declared.Base.TheVariants.{A, C, G, U}
 use Rattle.std.proofs.Common.{Option, Some, None, MatchOption}
-use Rattle.std.specs.Option.{is_some}
 use Rattle.bases.specs.Bases.{letter_of, Spelt, kept, refused, told, reads, is_refused, letter_in, no_base, normal, is_kept, can_pair, pair_index}
 
 -- ---- reading
@@ -28,12 +27,6 @@ read_letter x h e = sym (ap letter_in (sym h ∙ ap told e))
 pub read_none : {r : Option Base} (x : ℕ) → told r ≡ reads x → r ≡ None → no_base x ≡ true
 unfolding no_base
 read_none x h e = ap is_refused (sym h ∙ ap told e)
-
--- a byte is no base where none is read
-pub read_tests : (r : Option Base) (x : ℕ) → told r ≡ reads x → no_base x ≡ not (is_some r)
-unfolding no_base
-read_tests (Some b) x h = ap is_refused (sym h)
-read_tests None x h = ap is_refused (sym h)
 
 -- the letter of the base that is read, or 0
 pub read_normal : (r : Option Base) (x v : ℕ) → told r ≡ reads x → MatchOption r (v ≡ 0) (λ b. v ≡ letter_of b) → v ≡ normal x

@@ -29,9 +29,6 @@ use Rattle.energy_fill.specs.Passes.{Started, closed, begun, link}
 
 -- ---- starting a column
 module _ (f g₀ : ℕ → ℤ) (j : ℕ) where
-  pub started_none : Started f g₀ g₀ j 0
-  started_none = record { left = λ k p. refl; right = λ k p. refl; each = λ i p. absurd (omega arith) }
-
   pub started_more :
       (g g' : ℕ → ℤ) (n p : ℕ) (x : ℤ) → p ≡ place n j → Put g g' p x → x ≡ f n → Started f g₀ g j n → Started f g₀ g' j (n + 1)
   started_more g g' n p x w put e r =
