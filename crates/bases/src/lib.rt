@@ -27,7 +27,7 @@ pub fn read_base(byte: u8) -> Option<Base>
     }
 }
 
-// The upper-case letter of a base.
+// The upper-case letter of a base. A call and no `From`: docs/PROMISES.md promises it.
 pub fn letter(base: Base) -> u8
     ensures { result ≡ letter_of base }
 {

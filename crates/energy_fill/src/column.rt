@@ -101,6 +101,7 @@ fn take(cells: &mut [i32], j: usize, from: usize, k: usize)
 }
 
 // Every split of rows 0 to `from` of column j, from the last to the first: when (k + 1, j) is final, it is taken into the rows before it.
+// Not one with the settling of counts: there row k is joined with its own cell, here it is not.
 fn settle(cells: &mut [i32], j: usize, from: usize)
     requires { (from ≤ j) × (j < longest + 2) × (tri (j + 1) ≤ length cells.old) × Fine InRange (at (nums cells.old)) (j + 1) }
     ensures { Settled minℤ link InRange (nums cells.new) (nums cells.old) (nums cells.new) j from 0 }

@@ -15,6 +15,7 @@ use figures::SideCharges;
 mod column;
 
 // Rewrites the columns from `first` to before `n`, each from row `top` or its last to row 0.
+// Not one with the filling of counts: three tables are written together here.
 // The tables stand apart: of a struct whose fields are `&mut`, the borrow checker has no rule for a call that lends two at once.
 pub fn columns(
     bases: &[u8],

@@ -9,7 +9,7 @@ use std::io;
 use std::io::Read;
 
 // Reads until the room for the list is full or the input ends; how many bytes the list has.
-// After a failed read the room is as long as it was, and what it holds is undecided.
+// After a failed read the room is as long as it was, and what it holds is undecided. Memory is fixed, so the list is lent.
 pub fn read_full<R: Read>(input: &mut R, list: &mut [u8]) -> io::Result<usize>
     ensures bound { IfOk result (λ n. n ≤ length list.new) }
     ensures bytes { IfOk result (λ n. Consumes (R.remaining input.old) (R.remaining input.new) (take n list.new)) }

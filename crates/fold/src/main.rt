@@ -14,6 +14,7 @@ use std::io::Read;
 // The two places of a pair are more than this apart.
 const GAP: usize = 3;
 
+// Memory is fixed: what is read and written stands in arrays, and its length beside.
 // The cells of 80 bases: 80 × 81 / 2.
 const CELLS: usize = 3240;
 

@@ -1,4 +1,5 @@
-// The C interface: the libraries' calls under plain names, their answers flattened into structs of numbers. No logic stands here.
+// The C interface: the libraries' calls under plain names, their answers flattened into structs of numbers. No logic stands here:
+// the exports are alike, and each has its own name and contract.
 // include/yukemasop.h declares each call; a struct's first field is the refusal's number (0: accepted),
 // its second the place (the largest usize: none).
 #![tactic(auto)]
