@@ -3,7 +3,8 @@ ghost use Rattle.std.specs.Prelude.{◌≡◌, ◌+◌, ◌≤◌, ◌<◌};
 
 use std::fmt;
 
-// The lines so far, those whose pair-count fold agrees, those whose energy fold does, and the first that differs in either, counted from 1.
+// The lines so far, those whose pair-count fold agrees, those whose energy fold does, and the first that differs in either,
+// counted from 1.
 #[derive(Clone, Copy)]
 pub struct Tally {
     lines: usize,
