@@ -51,7 +51,7 @@ pub struct YkmLeast {
 }
 
 // No place is the largest number.
-fn flat_place(place: Option<usize>) -> usize
+pub fn flat_place(place: Option<usize>) -> usize
     ensures { result ≡ flat_place place }
 {
     place.unwrap_or(usize::MAX)

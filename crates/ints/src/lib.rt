@@ -1,8 +1,8 @@
-// Signed numbers: the leaves by which the energy crates read, add and compare their cells.
+// Signed numbers: the leaves by which the energy crates read, store, add and compare their cells.
 // Each contract is an equation, so that callers need no law of the order; proofs/Ints.antt has the laws (`omega ints`).
 #![tactic(auto)]
 
-ghost use Rattle.std.specs.Prelude.{◌≡◌, ◌<◌, pos, nat_abs, ◌+ℤ◌, length, get_or};
+ghost use Rattle.std.specs.Prelude.{◌≡◌, ◌<◌, pos, nat_abs, ◌+ℤ◌, length, get_or, set};
 ghost use Rattle.ints.specs.Ints.{minℤ, add_e, Small};
 
 // What a cell holds that has no structure: above every energy.
@@ -47,4 +47,12 @@ pub fn cell(table: &[i32], at: usize) -> i32
     ensures { result ≡ get_or table.now at (pos 0) }
 {
     table[at]
+}
+
+// Stores one cell. It stays beside `cells[at] = energy`: docs/PROMISES.md promises the call.
+pub fn store(cells: &mut [i32], at: usize, energy: i32)
+    requires { at < length cells.old }
+    ensures { cells.new ≡ set cells.old at energy }
+{
+    cells[at] = energy;
 }
