@@ -68,16 +68,49 @@ fn is_space(byte: &u8) -> bool {
 
 // So many fields, none of them empty, and a line feed.
 pub fn has_fields(line: &[u8], count: usize) -> bool {
-    let Some(text) = line.strip_suffix(b"\n") else {
-        return false;
-    };
-    text.split(is_space).count() == count && text.split(is_space).all(|part| !part.is_empty())
+    line.ends_with(b"\n")
+        && count.checked_sub(1) == Some(spaces(line))
+        && line.split(is_space).all(|part| end_of_field(part, 0) != 0)
+}
+
+fn spaces(line: &[u8]) -> usize {
+    let mut n = 0;
+    // By hand: with `filter` and `count` a line of spaces takes more than twice the steps.
+    for b in line {
+        n += usize::from(is_space(b));
+    }
+    n
 }
 
 // Field k, counted from 0; empty where there are fewer.
 pub fn field(line: &[u8], k: usize) -> &[u8] {
-    let text = line.strip_suffix(b"\n").unwrap_or(line);
-    text.split(is_space).nth(k).unwrap_or(&[])
+    let from = start_of_field(line, k);
+    &line[from..end_of_field(line, from)]
+}
+
+// Where field k starts: past as many spaces, or where the line ends.
+fn start_of_field(line: &[u8], k: usize) -> usize
+    ensures { result ≤ length line.now }
+{
+    let mut from = 0;
+    for _ in 0..k {
+        match line[from..].iter().position(is_space) {
+            Some(n) => from += n + 1,
+            None => return line.len(),
+        }
+    }
+    from
+}
+
+// Where the field that starts at `from` ends: at a space, at the line feed, or where the line ends.
+fn end_of_field(line: &[u8], from: usize) -> usize
+    requires { from ≤ length line.now }
+    ensures { (from ≤ result) × (result ≤ length line.now) }
+{
+    match line[from..].iter().position(|b| is_space(b) || *b == b'\n') {
+        Some(k) => from + k,
+        None => line.len(),
+    }
 }
 
 // An empty field is no decimal, nor is a number that 64 bits don't hold.
