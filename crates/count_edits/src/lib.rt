@@ -135,8 +135,9 @@ pub fn traceback(
     let n = held.length;
     count_kept::kept_checks(n, bases, cells)?;
     if pairs.len() < n {
-        return Err(Refusal::TooShort);
+        Err(Refusal::TooShort)
+    } else {
+        count_trace::traceback(bases, cells, held.gap, n, pairs);
+        Ok(counting::count(cells, n))
     }
-    count_trace::traceback(bases, cells, held.gap, n, pairs);
-    Ok(counting::count(cells, n))
 }
