@@ -106,8 +106,9 @@ impl Strand<'_> {
         ensures { result ≡ energy_of self.now.bases.now self.now.pairs.now }
     {
         let mut sum = 0;
-        for (i, &v) in self.pairs.iter().enumerate() {
-            if structure::opens(i, v) {
+        // Over places and not entries, so that the edit that leaves the first one out changes a number alone.
+        for i in 0..self.pairs.len() {
+            if structure::opens(i, self.pairs[i]) {
                 sum += self.charge_at(i);
             }
         }

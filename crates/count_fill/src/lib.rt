@@ -19,7 +19,7 @@ pub fn columns(bases: &[u8], cells: &mut [u16], first: usize, top: usize, n: usi
     ensures { Columns (nussinov gap) Half (view bases.now) (view cells.old) (view cells.new) first top n }
 {
     for j in first..n {
-        column::rows(bases, cells, j, top.min(j), gap);
+        column::rows(bases, cells, j, cells::smaller(top, j), gap);
     }
 }
 

@@ -70,7 +70,7 @@ fn start(paired: &[i32], cells: &mut [i32], j: usize, from: usize, charge: i32, 
         cells[to + i] = ints::least(ints::least(limit, closed), open);
     }
     if from == j {
-        cells[to + j] = limit;
+        ints::store(cells, to + j, limit);
     }
 }
 

@@ -12,13 +12,13 @@ rows-requires c = (
   omega arith,
   omega arith,
   omega (arith, tri_mono (c.loop-j.j + 1) c.args.n (omega arith)),
-  columns_fine (nussinov _) (nussinov_local _) _ (nussinov_keeps _) _ _ _ _ _ c.args.n _ _ (omega arith) (omega arith) c.min.ensures c.requires.4
+  columns_fine (nussinov _) (nussinov_local _) _ (nussinov_keeps _) _ _ _ _ _ c.args.n _ _ (omega arith) (omega arith) c.smaller.ensures c.requires.4
       c.loop-j.invariant,
 )
 
 pub loop-j-preserved : goal.loop-j-preserved
 loop-j-preserved c =
-    columns_more (nussinov _) (nussinov_local _) _ (nussinov_keeps _) _ _ _ _ _ _ _ _ (omega arith) c.min.ensures c.loop-j.invariant c.rows.ensures
+    columns_more (nussinov _) (nussinov_local _) _ (nussinov_keeps _) _ _ _ _ _ _ _ _ (omega arith) c.smaller.ensures c.loop-j.invariant c.rows.ensures
 
 pub returns : goal.returns
 returns c =

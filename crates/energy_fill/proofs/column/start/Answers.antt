@@ -25,6 +25,7 @@ pub returns-then-from-j : goal.returns-then-from-j
 returns-then-from-j c =
     let rows : c.loop-i.i ≡ c.args.j = omega arith in
     let last : c.args.j + 1 ≡ c.args.from + 1 = omega arith in
-    begun_by _ _ _ _ _ (plain c.args.charge c.ranges.charge.sfits) (plain c.args.limit c.ranges.limit.sfits) last
+    rw c.store.ensures
+    (begun_by _ _ _ _ _ (plain c.args.charge c.ranges.charge.sfits) (plain c.args.limit c.ranges.limit.sfits) last
     (started_more _ _ _ _ _ c.args.j _ _ (omega arith)
-    (put_set (pos 0) c.loop-i.cells (c.place-to.result + c.args.j) _ (omega (arith, tri_step c.args.j))) (begun_one _ _ _ _ c.args.j c.args.j (omega arith)) (begun_by _ _ _ _ _ refl refl rows c.loop-i.invariant))
+    (put_set (pos 0) c.loop-i.cells (c.place-to.result + c.args.j) _ (omega (arith, tri_step c.args.j))) (begun_one _ _ _ _ c.args.j c.args.j (omega arith)) (begun_by _ _ _ _ _ refl refl rows c.loop-i.invariant)))
