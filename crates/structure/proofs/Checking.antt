@@ -1,5 +1,5 @@
 -- What the check of a pair table knows, step by step, and that a table is due nothing exactly where it is sound. Assumes nothing.
-use mathlib.Core.Path.{◌≡◌, refl, sym, ap, ◌∙◌}
+use mathlib.Core.Path.{◌≡◌, refl, sym, ap, subst, ◌∙◌}
 use mathlib.Core.Logic.{◌≢◌, inl, inr, ⊎_elim, by_cases}
 use mathlib.Core.Bool.{Bool, true, false, not, ◌||◌, true≢false, false≢true}
 use mathlib.Core.List.{List}
@@ -17,8 +17,8 @@ use Rattle.std.proofs.lemmas.Option.{none-some, same_Some}
 use Rattle.structure.specs.Table.{unpaired, view, Fold, Sound, opens}
 use Rattle.structure.specs.Soundness.{named, over, crossed, unnamed_due, crossed_due, unsound_due, table_due, write_due}
 use Rattle.structure.specs.Walking.{Named, AllNamed, FirstUnnamed, Over, Crossed, crossed_by, Crossing, crossing, Shut, Escapes, escapes, Tells, hop_to}
-use Rattle.structure.proofs.Folds.{one, join, wrap}
-use Rattle.structure.proofs.Counts.{opens_high, opens_none, opens_low}
+use Rattle.structure.proofs.Folds.{empty, one, join, wrap}
+use Rattle.structure.proofs.Counts.{opens_high, opens_none, opens_low, low_or_none}
 
 -- ---- a test's answer
 pub tells_true : {A B : Type 0} → A → Tells true A B
@@ -116,6 +116,14 @@ module _ (p : ℕ → ℕ) (n : ℕ) where
         by_cases (ℕ_discrete i x)
         (λ q. rw (← q) (wrap p (rw (add-one i) at f) b.0 (omega arith) refl b.2))
         (λ q. s x (omega arith) o w)
+
+    -- nothing stands inside a pair of neighbours
+    pub shut_bare : (i : ℕ) → i < n → opens (i + 1) (p i) ≡ 0 → Shut p n (i + 1) → Shut p n i
+    shut_bare i h z s = by_cases (ℕ_discrete (opens i (p i)) 0)
+        (λ o. shut_closed i h o s)
+        (λ o. let w = opens_in i h o in
+        let e : p i ≡ i + 1 = omega (arith, w.0, low_or_none (i + 1) (p i) z (λ q. omega (arith, w.1))) in
+        shut_open i h o s (subst (λ x. Fold p x (p i)) e (empty p (p i) (omega arith))))
 
     pub crosses : (i : ℕ) → i < n → opens i (p i) ≢ 0 → Escapes p (i + 1) (p i) → Crossing p n
     crosses i h z (escapes x l r q d) =

@@ -1,6 +1,6 @@
 -- What a count of openings depends on. Assumes nothing.
 use mathlib.Core.Bool.{Bool, true, false, cond}
-use mathlib.Core.Path.{◌≡◌, sym, ap, ◌∙◌}
+use mathlib.Core.Path.{◌≡◌, refl, sym, ap, ◌∙◌}
 use mathlib.Core.Logic.{◌≢◌, by_cases}
 use Prim.Native.Nat.{ℕ, zero, suc, ◌+◌, ◌<◌, ◌≤◌}
 use native.Mathlib.Omega.{arith}
@@ -24,6 +24,16 @@ opens_true k v e t = sym e ∙ ap (λ (b : Bool). cond b 1 0) t
 
 pub opens_false : {r : Bool} (k v : ℕ) → cond r 1 0 ≡ opens k v → r ≡ false → opens k v ≡ 0
 opens_false k v e f = sym e ∙ ap (λ (b : Bool). cond b 1 0) f
+
+-- a position that opens no pair is unpaired, or its partner lies no further right
+pub low_or_none : (k v : ℕ) → opens k v ≡ 0 → v ≢ unpaired → v ≤ k
+low_or_none k v z n = by_cases (dec_lt k v) (λ h. omega (arith, opens_high k v h n)) (λ h. omega arith)
+
+-- a position whose partner stands right of the next one opens a pair
+pub opens_before : (k v : ℕ) → opens (k + 1) v ≢ 0 → opens k v ≢ 0
+opens_before k v o z = by_cases (ℕ_discrete v unpaired)
+    (λ e. o (opens_none (k + 1) v e))
+    (λ n. by_cases (dec_lt k v) (λ h. omega (arith, z, opens_high k v h n)) (λ h. o (rw (ne_eqb v unpaired n, le-ltb (k + 1) v (omega arith)) refl)))
 
 -- counts over a span differ alike where the entries are alike
 pub opened_moved : (p q : ℕ → ℕ) (lo hi : ℕ) → lo ≤ hi → ((k : ℕ) → lo ≤ k → k < hi → q k ≡ p k) → opened q hi + opened p lo ≡ opened p hi + opened q lo

@@ -84,7 +84,8 @@ impl Named<'_> {
             (Crossing (view self.now.table.now) (length self.now.table.now)) }
     {
         let v = self.table[i];
-        if !opens(i, v) {
+        // A pair of neighbours has no inside. Asked of i + 1, the test is also the walk's first one, which is then made once.
+        if !opens(i + 1, v) {
             return true;
         }
         self.walk(i + 1, usize::from(v))
